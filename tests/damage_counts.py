@@ -54,15 +54,21 @@ def read_field(parts, index, max_doc):
 
 
 def read_store(data):
-    """How many documents a store has. A pair may have any field."""
-    documents = formats.store(data)
-    for stored in documents:
+    """A store by itself has no schema: a pair may have any field."""
+    for stored in formats.store(data):
         reader = formats.Reader(stored)
         for _ in range(reader.varint()):
             reader.varint()
             formats.value(reader, 1)
         reader.end()
-    return len(documents)
+
+
+def read_stored(data, schema, max_doc):
+    """The store of this many documents, each pair of which has a stored field of the schema."""
+    documents = formats.store(data)
+    check(len(documents) == max_doc, 'another number of documents')
+    for stored in documents:
+        formats.stored_document(stored, schema)
 
 
 def read_lengths(data, fields, max_doc):
@@ -81,7 +87,7 @@ class Run:
 
     def __init__(self, files):
         script = json.loads(files['json'])
-        self.schema = [{'index': 'no', 'fast': False, **told_schema(entry)} for entry in script['schema']]
+        self.schema = [{'index': 'no', 'fast': False, 'stored': False, **told_schema(entry)} for entry in script['schema']]
         self.max_doc = sum('add' in operation for operation in script['operations'])
         self.indexed = [at for at, entry in enumerate(self.schema) if entry['index'] != 'no']
         self.with_lengths = [at for at in self.indexed if self.schema[at].get('norms', True)]
@@ -107,7 +113,7 @@ class Run:
             else:
                 read_positions(terms[at], part)
         if extension == 'store':
-            check(read_store(data) == self.max_doc, 'another number of documents')
+            read_stored(data, self.schema, self.max_doc)
         if extension == 'fast':
             rows, found = columns(data)
             check(rows == self.max_doc, 'another number of rows')

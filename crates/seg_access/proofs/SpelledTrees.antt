@@ -19,16 +19,16 @@ mutual
   spelling_once (array ts) (leaf m) r s e = absurd cc
   spelling_once (array ts) (array us) r s e =
       let count : tree_count ts ≡ tree_count us = cc in
-      let behind : spellings ts ++ r ≡ spellings us ++ s = cc in
-      let same = spellings_once ts us r s count behind in
+      let following : spellings ts ++ r ≡ spellings us ++ s = cc in
+      let same = spellings_once ts us r s count following in
       (ap array same.0, same.1)
   spelling_once (array ts) (object ns) r s e = absurd cc
   spelling_once (object ms) (leaf m) r s e = absurd cc
   spelling_once (object ms) (array us) r s e = absurd cc
   spelling_once (object ms) (object ns) r s e =
       let count : member_count ms ≡ member_count ns = cc in
-      let behind : member_spellings ms ++ r ≡ member_spellings ns ++ s = cc in
-      let same = member_spellings_once ms ns r s count behind in
+      let following : member_spellings ms ++ r ≡ member_spellings ns ++ s = cc in
+      let same = member_spellings_once ms ns r s count following in
       (ap object same.0, same.1)
 
   spellings_once : (ts us : Trees) (r s : List Mark) → tree_count ts ≡ tree_count us → spellings ts ++ r ≡ spellings us ++ s → (ts ≡ us) × (r ≡ s)
@@ -46,8 +46,8 @@ mutual
   member_spellings_once (member k t ms) no_members r s n e = absurd (omega arith)
   member_spellings_once (member k t ms) (member j u ns) r s n e =
       let same : k ≡ j = cc in
-      let behind : (spelling t ++ member_spellings ms) ++ r ≡ (spelling u ++ member_spellings ns) ++ s = cc in
-      let first = spelling_once t u (member_spellings ms ++ r) (member_spellings ns ++ s) (regroup (spelling t) (member_spellings ms) r (spelling u) (member_spellings ns) s behind) in
+      let following : (spelling t ++ member_spellings ms) ++ r ≡ (spelling u ++ member_spellings ns) ++ s = cc in
+      let first = spelling_once t u (member_spellings ms ++ r) (member_spellings ns ++ s) (regroup (spelling t) (member_spellings ms) r (spelling u) (member_spellings ns) s following) in
       let later = member_spellings_once ms ns r s (omega arith) first.1 in
       (λ i. member (same i) (first.0 i) (later.0 i), later.1)
 
@@ -105,8 +105,8 @@ missing_member no_members n all left p h none (member k t ms) rest c e =
 missing_member (member j d ds) n all left p h none no_members rest c e = absurd (omega arith)
 missing_member (member j d ds) n all left p h none (member k t ms) rest c e =
     let both : key j ∷ ((spelling d ++ member_spellings ds) ++ left) ≡ key k ∷ ((spelling t ++ member_spellings ms) ++ rest) = sym p ∙ e in
-    let behind : (spelling d ++ member_spellings ds) ++ left ≡ (spelling t ++ member_spellings ms) ++ rest = cc in
-    let first = spelling_once d t (member_spellings ds ++ left) (member_spellings ms ++ rest) (regroup (spelling d) (member_spellings ds) left (spelling t) (member_spellings ms) rest behind) in
+    let following : (spelling d ++ member_spellings ds) ++ left ≡ (spelling t ++ member_spellings ms) ++ rest = cc in
+    let first = spelling_once d t (member_spellings ds ++ left) (member_spellings ms ++ rest) (regroup (spelling d) (member_spellings ds) left (spelling t) (member_spellings ms) rest following) in
     missing_member ds (member_count ms) (member_spellings ds ++ left) left refl (omega arith) none ms rest refl first.1
 
 -- ---- one more part
@@ -148,9 +148,9 @@ read_more all left after vs us n t r e p = record {
   spelled = r.spelled ∙ ap (λ l. spellings (trees_from vs) ++ l) e ∙ sym (spellings_last vs t after) ∙ ap (λ l. spellings (trees_from l) ++ after) (sym p);
 }
 
-pub read_member_more : (all left behind after : List Mark) (ms ns : List (List ℕ × Tree)) (n : ℕ) (k : List ℕ) (t : Tree) → ReadMembers all left ms n → left ≡ key k ∷ behind → behind ≡ spelling t ++ after
+pub read_member_more : (all left following after : List Mark) (ms ns : List (List ℕ × Tree)) (n : ℕ) (k : List ℕ) (t : Tree) → ReadMembers all left ms n → left ≡ key k ∷ following → following ≡ spelling t ++ after
     → ns ≡ ms ++ (k, t) ∷ [] → ReadMembers all after ns (n + 1)
-read_member_more all left behind after ms ns n k t r f e p = record {
+read_member_more all left following after ms ns n k t r f e p = record {
   count = ap (λ l. member_count (members_from l)) p ∙ member_count_last ms k t ∙ ap (λ k. k + 1) r.count;
   spelled = r.spelled ∙ ap (λ l. member_spellings (members_from ms) ++ l) (f ∙ ap (λ l. key k ∷ l) e) ∙ sym (member_spellings_last ms k t after)
       ∙ ap (λ l. member_spellings (members_from l) ++ after) (sym p);
@@ -164,9 +164,9 @@ pub no_key_more : (all left : List Mark) (ms : List (List ℕ × Tree)) (n total
 no_key_more all left ms n total r h none = missing_member (members_from ms) total all left r.spelled (omega (arith, r.count)) (λ k t rest e. none k (spelling t ++ rest) e)
 
 -- where no value is after a key
-pub no_value_more : (all left behind : List Mark) (ms : List (List ℕ × Tree)) (n total : ℕ) (k : List ℕ) → ReadMembers all left ms n → n < total → left ≡ key k ∷ behind → SpellsNone behind → SpellsNoMembers total all
-no_value_more all left behind ms n total k r h f none =
-    missing_member (members_from ms) total all left r.spelled (omega (arith, r.count)) (λ j t rest e. none t rest (let b : behind ≡ spelling t ++ rest = cc in b))
+pub no_value_more : (all left following : List Mark) (ms : List (List ℕ × Tree)) (n total : ℕ) (k : List ℕ) → ReadMembers all left ms n → n < total → left ≡ key k ∷ following → SpellsNone following → SpellsNoMembers total all
+no_value_more all left following ms n total k r h f none =
+    missing_member (members_from ms) total all left r.spelled (omega (arith, r.count)) (λ j t rest e. none t rest (let b : following ≡ spelling t ++ rest = cc in b))
 
 -- ---- how it ends
 

@@ -70,13 +70,13 @@ one_of (delete term ∷ operations) (suc i) document at = one_of operations i do
 one_of (delete_all terms ∷ operations) (suc i) document at = one_of operations i document at
 
 module _ (analyzer : Analyzer) (place : ℕ) (old new : SegmentWriting) where
-  taken_behind : (operation : Operation) (documents : List Document) (stamps : List ℕ)
+  taken_after : (operation : Operation) (documents : List Document) (stamps : List ℕ)
       → IsTaken analyzer place operation old new → Writes analyzer documents stamps old
       → Writes analyzer (documents ++ additions (operation ∷ [])) (stamps ++ addition_stamps place (operation ∷ [])) new
-  taken_behind (add document) documents stamps h w = h.behind documents stamps w
-  taken_behind (delete term) documents stamps h w =
+  taken_after (add document) documents stamps h w = h.following documents stamps w
+  taken_after (delete term) documents stamps h w =
       subst (λ ds. Writes analyzer ds (stamps ++ []) new) (sym (append-nil documents)) (subst (λ ss. Writes analyzer documents ss new) (sym (append-nil stamps)) (subst (Writes analyzer documents stamps) (sym h) w))
-  taken_behind (delete_all terms) documents stamps h w =
+  taken_after (delete_all terms) documents stamps h w =
       subst (λ ds. Writes analyzer ds (stamps ++ []) new) (sym (append-nil documents)) (subst (λ ss. Writes analyzer documents ss new) (sym (append-nil stamps)) (subst (Writes analyzer documents stamps) (sym h) w))
 
   pub taken_unrefused : (schema : Schema) (operation : Operation) → old.schema ≡ schema
@@ -102,7 +102,7 @@ module _ (schema : Schema) (analyzer : Analyzer) (first : ℕ) (operations : Lis
       subst (λ l. HasAdditions analyzer first l new) (sym (take-slice_get operations i operation at))
       (subst (λ ds. Writes analyzer ds (addition_stamps first (so_far ++ operation ∷ [])) new) (sym (additions-append so_far (operation ∷ [])))
       (subst (λ ss. Writes analyzer (additions so_far ++ additions (operation ∷ [])) ss new) (sym stamps)
-      (taken_behind analyzer (first + i) old new operation (additions so_far) (addition_stamps first so_far) h has)))
+      (taken_after analyzer (first + i) old new operation (additions so_far) (addition_stamps first so_far) h has)))
 
   -- ---- one that is not taken
   module _ (few : length (additions operations) < 2 ^ 31)

@@ -19,7 +19,7 @@ use Rattle.seg_segment.specs.SegmentFiles.{AreAbsent}
 use Rattle.seg_segment.proofs.Exports.{newest}
 use Rattle.seg_batches.specs.AliveFiles.{AllTellMarks, TellMarks, WritesAlive, alive_step, alive_steps}
 use Rattle.seg_batches.specs.WrittenSegments.{AllTellAlive, TellsAlive, WrittenSegment, alive_file, alive_files, all_listed, deletes_of}
-use Rattle.seg_batches.proofs.DistinctSegments.{alive_apart, others_behind}
+use Rattle.seg_batches.proofs.DistinctSegments.{alive_apart, others_after}
 
 -- ---- one file
 
@@ -41,10 +41,10 @@ module _ (id : ℕ) (bytes : List ℕ) where
   step_suits None files more absent suit = suit
   step_suits (Some d) files more absent suit = (absent.0, suit)
 
-  files_behind : (d : Option Deletes) (files : NamedFiles) (more : List Step)
+  files_after : (d : Option Deletes) (files : NamedFiles) (more : List Step)
       → all_files_after (alive_step id d bytes ++ more) files ≡ all_files_after more (all_files_after (alive_step id d bytes) files)
-  files_behind None files more = refl
-  files_behind (Some d) files more = refl
+  files_after None files more = refl
+  files_after (Some d) files more = refl
 
 -- ---- all of them
 
@@ -59,7 +59,7 @@ module _ (stamp : ℕ) where
   steps_keep [] segments id at old ne = refl
   steps_keep (f ∷ files) [] id at old ne = refl
   steps_keep (f ∷ files) (s ∷ segments) id at old ne =
-      ap (λ (now : NamedFiles). get now (Alive id at)) (files_behind s.id f (deletes_of stamp s.alive) old (alive_steps stamp files segments))
+      ap (λ (now : NamedFiles). get now (Alive id at)) (files_after s.id f (deletes_of stamp s.alive) old (alive_steps stamp files segments))
       ∙ steps_keep files segments id at (all_files_after (alive_step s.id (deletes_of stamp s.alive) f) old) ne.1
       ∙ step_keeps s.id f (Alive id at) (deletes_of stamp s.alive) old (λ t is. alive_apart s.id id t at ne.0 (sym is))
 
@@ -73,7 +73,7 @@ module _ (stamp : ℕ) where
   others_are : (s : WrittenSegment) (segments : List WrittenSegment)
       → are_distinct (map (λ (t : WrittenSegment). t.id) (s ∷ segments)) ≡ true
       → AllByRecursion (λ (t : WrittenSegment). t.id ≢ s.id) segments
-  others_are s segments distinct = others_behind (λ (t : WrittenSegment). t.id) (s ∷ segments) 0 s distinct refl
+  others_are s segments distinct = others_after (λ (t : WrittenSegment). t.id) (s ∷ segments) 0 s distinct refl
 
   rest_distinct : (s : WrittenSegment) (segments : List WrittenSegment)
       → are_distinct (map (λ (t : WrittenSegment). t.id) (s ∷ segments)) ≡ true
@@ -90,7 +90,7 @@ module _ (stamp : ℕ) where
   steps_tell (f ∷ files) (s ∷ segments) old many distinct tell =
       let d = deletes_of stamp s.alive in
       let now = all_files_after (alive_step s.id d f) old in
-      subst (λ (new : NamedFiles). AllTellAlive new stamp (s ∷ segments)) (sym (files_behind s.id f d old (alive_steps stamp files segments))) (
+      subst (λ (new : NamedFiles). AllTellAlive new stamp (s ∷ segments)) (sym (files_after s.id f d old (alive_steps stamp files segments))) (
         tells_on s.id s.documents s.alive d now (all_files_after (alive_steps stamp files segments) now) (λ at. steps_keep files segments s.id at now (others_are s segments distinct)) (step_tells s.id f s.documents s.alive d old tell.0),
         steps_tell files segments now (omega (arith, many)) (rest_distinct s segments distinct) tell.1,
       )

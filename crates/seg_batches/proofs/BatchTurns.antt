@@ -47,7 +47,7 @@ pub first_place : (operations : List Operation) (cuts : List ℕ) → cuts_fit o
     → IsPlace operations cuts 0 0
 first_place operations cuts h =
     let parts = and_parts (never_falls cuts) (list_all (λ cut. nat_le cut (length operations)) cuts) h in
-    record { within = omega arith; rising = never_falls-zero cuts parts.0; fit = parts.1; ends = λ behind. absurd (omega (arith, behind)) }
+    record { within = omega arith; rising = never_falls-zero cuts parts.0; fit = parts.1; ends = λ later. absurd (omega (arith, later)) }
 
 -- ---- one batch, and those after it
 
@@ -97,12 +97,12 @@ module _ (schema : Schema) (analyzer : Analyzer) (operations : List Operation) (
     size : first + (cut - first) ≡ cut
     size = omega (arith, rises_there.0)
 
-    behind : drop (cut - first) (drop first operations) ≡ drop cut operations
-    behind = drop-drop (cut - first) first operations ∙ ap (λ n. drop n operations) size
+    later : drop (cut - first) (drop first operations) ≡ drop cut operations
+    later = drop-drop (cut - first) first operations ∙ ap (λ n. drop n operations) size
 
-    behind_numbered : drop (cut - first) (enumerate_from first (drop first operations)) ≡ enumerate_from cut (drop cut operations)
-    behind_numbered =
-        drop-enumerate (cut - first) first (drop first operations) ∙ ap (λ k. enumerate_from k (drop (cut - first) (drop first operations))) size ∙ ap (enumerate_from cut) behind
+    after_numbered : drop (cut - first) (enumerate_from first (drop first operations)) ≡ enumerate_from cut (drop cut operations)
+    after_numbered =
+        drop-enumerate (cut - first) first (drop first operations) ∙ ap (λ k. enumerate_from k (drop (cut - first) (drop first operations))) size ∙ ap (enumerate_from cut) later
 
     to_cut : Turn schema analyzer operations cuts at first cut
     to_cut = record {
@@ -116,10 +116,10 @@ module _ (schema : Schema) (analyzer : Analyzer) (operations : List Operation) (
       is_first = inl (
         slice_get_within cuts at cut found,
         ap (λ l. batches_from schema analyzer first l (drop first operations)) cut_here
-            ∙ ap (λ (os : List Operation). (let b : Batch = record { documents = additions (slice_range operations first cut); alive = alive_after schema analyzer (slice_range operations first cut) os } in b) ∷ batches_from schema analyzer cut (drop (at + 1) cuts) os) behind,
+            ∙ ap (λ (os : List Operation). (let b : Batch = record { documents = additions (slice_range operations first cut); alive = alive_after schema analyzer (slice_range operations first cut) os } in b) ∷ batches_from schema analyzer cut (drop (at + 1) cuts) os) later,
         ap (λ l. cut_from first l (enumerate_from first (drop first operations))) cut_here
             ∙ ap (λ part. part ∷ cut_from cut (drop (at + 1) cuts) (drop (cut - first) (enumerate_from first (drop first operations)))) (take-enumerate (cut - first) first (drop first operations))
-            ∙ ap (λ rest. part_here operations first cut ∷ cut_from cut (drop (at + 1) cuts) rest) behind_numbered,
+            ∙ ap (λ rest. part_here operations first cut ∷ cut_from cut (drop (at + 1) cuts) rest) after_numbered,
       );
     }
 

@@ -44,8 +44,8 @@ module _ {T : Type 0} (names : T → ℕ → Bool) (mapping : DocToOpstampMappin
       → next ≡ min (at + 1) (length operations)
       → staying (is_left_by names mapping (drop next operations)) (staying (is_left_by names mapping (take 1 (drop at operations))) s) ≡ staying (is_left_by names mapping (drop at operations)) s
   left_by_next operations at next s moved =
-      let behind : drop next operations ≡ drop 1 (drop at operations) = ap (λ k. drop k operations) moved ∙ drop_min (at + 1) operations ∙ sym (drop-drop 1 at operations) in
-      ap (λ os. staying (is_left_by names mapping os) (staying (is_left_by names mapping (take 1 (drop at operations))) s)) behind
+      let later : drop next operations ≡ drop 1 (drop at operations) = ap (λ k. drop k operations) moved ∙ drop_min (at + 1) operations ∙ sym (drop-drop 1 at operations) in
+      ap (λ os. staying (is_left_by names mapping os) (staying (is_left_by names mapping (take 1 (drop at operations))) s)) later
       ∙ left_by_more (take 1 (drop at operations)) (drop 1 (drop at operations)) s
       ∙ ap (λ os. staying (is_left_by names mapping os) s) (take-append-drop 1 (drop at operations))
 

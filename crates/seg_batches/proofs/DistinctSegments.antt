@@ -28,15 +28,15 @@ module _ {X : Type 0} (number : X → ℕ) where
       ((λ is. eqb-false n (number x) parts.0 (sym is)), none_has n xs parts.1)
 
   -- where no two have one number, those after one have others
-  pub others_behind : (xs : List X) (i : ℕ) (x : X) → are_distinct (map number xs) ≡ true → slice_get xs i ≡ Some x
+  pub others_after : (xs : List X) (i : ℕ) (x : X) → are_distinct (map number xs) ≡ true → slice_get xs i ≡ Some x
       → AllByRecursion (λ y. number y ≢ number x) (drop (i + 1) xs)
-  others_behind [] i x h at = absurd (none-some x at)
-  others_behind (y ∷ ys) zero x h at =
+  others_after [] i x h at = absurd (none-some x at)
+  others_after (y ∷ ys) zero x h at =
       let parts = and_parts (not (list_any (nat_eq (number y)) (map number ys))) (are_distinct (map number ys)) h in
       subst (λ z. AllByRecursion (λ w. number w ≢ number z) ys) (same_Some y x at) (none_has (number y) ys parts.0)
-  others_behind (y ∷ ys) (suc i) x h at =
+  others_after (y ∷ ys) (suc i) x h at =
       let parts = and_parts (not (list_any (nat_eq (number y)) (map number ys))) (are_distinct (map number ys)) h in
-      subst (λ n. AllByRecursion (λ w. number w ≢ number x) (drop n (y ∷ ys))) (let e : suc (i + 1) ≡ suc i + 1 = omega arith in e) (others_behind ys i x parts.1 at)
+      subst (λ n. AllByRecursion (λ w. number w ≢ number x) (drop n (y ∷ ys))) (let e : suc (i + 1) ≡ suc i + 1 = omega arith in e) (others_after ys i x parts.1 at)
 
   -- the files of others are apart, where those of any two are that differ in their numbers
   pub files_apart : (names : X → List FileName) (x : X) (ys : List X)

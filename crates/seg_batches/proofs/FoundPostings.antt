@@ -11,6 +11,7 @@ use Rattle.std.specs.declared.cmp.Ordering.TheVariants.{Less, Equal, Greater}
 use Rattle.std.proofs.lemmas.Bool.{false≢true, and_parts}
 use Rattle.std.proofs.lemmas.Option.{slice_get_cases, slice_get-map, get_or_from_slice_get, MatchOption-at_some}
 use Rattle.std.proofs.lemmas.List.{get_or_past, length-map}
+use Rattle.seg_segment.proofs.Exports.{pair_of, term_of}
 use Rattle.seg_common.specs.declared.term_info.TermInfo.{TermInfo}
 use Rattle.seg_common.proofs.Bools.{true_of}
 use Rattle.seg_common.proofs.TabulatedMaps.{same_key, texts_apart}
@@ -23,14 +24,6 @@ use Rattle.seg_postings.specs.OpenedFields.{ReadTerm, OpenField, dictionary_term
 use Rattle.seg_postings.specs.TermMaps.{terms_held}
 use Rattle.seg_open.specs.OpenSegment.{terms_in}
 use Rattle.seg_batches.proofs.DroppedNumbers.{documents_of}
-
--- a term with its postings
-abbrev pair_of : ReadTerm → List ℕ × List Posting
-pair_of t = (t.bytes, t.postings)
-
--- a term with its info
-abbrev term_of : ReadTerm → Term
-term_of t = (t.bytes, t.info)
 
 -- the postings at some bytes, among terms
 abbrev at_bytes : List ℕ → List ReadTerm → Option (List Posting)

@@ -24,12 +24,12 @@ use Rattle.seg_segment.specs.declared.segment_files.SegmentFiles.{SegmentFiles}
 use Rattle.seg_segment.proofs.Exports.{after_keeps, all_touched, held_on, six_there, stands_there}
 use Rattle.seg_batches.specs.WrittenSegments.{AllStand}
 use Rattle.seg_batches.specs.BatchWriteSteps.{AllStandFor, MakesBatches, batches_steps}
-use Rattle.seg_batches.proofs.DistinctSegments.{others_behind, part_from_parts}
+use Rattle.seg_batches.proofs.DistinctSegments.{others_after, part_from_parts}
 
 -- the other ids differ from the first
 pub others_are : (id : ℕ) (ids : List ℕ) → are_distinct (id ∷ ids) ≡ true → AllByRecursion (λ i. i ≢ id) ids
 others_are id ids distinct =
-    others_behind (λ (n : ℕ). n) (id ∷ ids) 0 id (ap are_distinct (map-id (id ∷ ids)) ∙ distinct) refl
+    others_after (λ (n : ℕ). n) (id ∷ ids) 0 id (ap are_distinct (map-id (id ∷ ids)) ∙ distinct) refl
 
 pub rest_distinct : (id : ℕ) (ids : List ℕ) → are_distinct (id ∷ ids) ≡ true → are_distinct ids ≡ true
 rest_distinct id ids distinct = (and_parts _ (are_distinct ids) distinct).1

@@ -84,10 +84,10 @@ module _ (p : ℕ → Bool) (option : IndexOption) (last : ℕ) where
       let place : q.document ≡ from = grind (arith, nat_tests) in
       let itself : nat_eq from q.document ≡ true = grind (arith, nat_tests) in
       let passes : p from ≡ true = same from (omega arith) ∙ ap (λ t. t || is_member from (documents_of ps)) itself in
-      let behind = this (subst (λ d. ArePostings option (d + 1) last ps) place are.3)
+      let later = this (subst (λ d. ArePostings option (d + 1) last ps) place are.3)
       (λ i ge. same i (omega (arith, ge)) ∙ ap (λ t. t || is_member i (documents_of ps)) (let apart : nat_eq i q.document ≡ false = grind (arith, nat_tests) in apart)) in
       ap (λ d. d ∷ documents_of ps) place
-      ∙ ap (λ l. from ∷ l) behind
+      ∙ ap (λ l. from ∷ l) later
       ∙ sym (ap (λ b. cond b (from ∷ filter p (range_with_len (from + 1) n)) (filter p (range_with_len (from + 1) n))) passes)
   next from n q ps are same this other false is =
       let low = are.0 in

@@ -37,7 +37,7 @@ module _ {T : Type 0} (target : ℕ) (operations : List (DeleteOperation T)) (po
       let short = prefix_len-le-length (is_below target) left in
       let long = length-drop position operations in
       record {
-        behind = omega arith;
+        later = omega arith;
         within = omega (arith, short, long);
         reached = elim (slice_get_cases operations (position + count)).1 [
           | inl w ↦ let stops = prefix_len_stops (is_below target) left w.0 (omega (arith, long)) in

@@ -14,13 +14,13 @@ pub record IsSkipping {T : Type 0} (target : ℕ) (initial : Queue T) (start : �
   pub rises : initial.flushed ≤ queue.flushed
 
 module _ {T : Type 0} (target : ℕ) (initial : Queue T) (start : ℕ) (queue asked : Queue T) (position : ℕ) (so_far : IsSkipping target initial start queue position) (flushed : IsFlushedAt position queue asked) where
-  behind : (b : Bool) → b ≡ is_behind target (slice_get queue.operations position) → is_behind target (slice_get initial.operations position) ≡ b
-  behind b is = ap (λ os. is_behind target (slice_get os position)) (sym so_far.operations) ∙ sym is
+  later : (b : Bool) → b ≡ is_behind target (slice_get queue.operations position) → is_behind target (slice_get initial.operations position) ≡ b
+  later b is = ap (λ os. is_behind target (slice_get os position)) (sym so_far.operations) ∙ sym is
 
   -- it passes an operation below the target
   pub skips : (passed : Queue T) (next : ℕ) → true ≡ is_behind target (slice_get queue.operations position) → next ≡ min (position + 1) (length asked.operations) → passed ≡ flushed_at position asked → next ≤ passed.flushed → asked.flushed ≤ passed.flushed → IsSkipping target initial start passed next
   skips passed next is moved left within rises =
-      let more = skipped-next target initial.operations position (behind true is) in
+      let more = skipped-next target initial.operations position (later true is) in
       let same : asked.operations ≡ initial.operations = ap (λ q. q.operations) flushed.queue ∙ so_far.operations in
       let one : next ≡ position + 1 = omega (arith, more.1, ap length same, moved) in
       let stop = skipped target initial.operations start in
@@ -36,5 +36,5 @@ module _ {T : Type 0} (target : ℕ) (initial : Queue T) (start : ℕ) (queue as
   -- and stops at any other one, and at the end
   pub stops : false ≡ is_behind target (slice_get queue.operations position) → (position ≡ skipped target initial.operations start) × (asked ≡ flushed_at position initial)
   stops is =
-      let here : position ≡ skipped target initial.operations start = sym (skipped-here target initial.operations position (behind false is)) ∙ so_far.stop in
+      let here : position ≡ skipped target initial.operations start = sym (skipped-here target initial.operations position (later false is)) ∙ so_far.stop in
       (here, flushed.queue ∙ ap (λ p. flushed_at p queue) here ∙ so_far.left ∙ ap (λ p. flushed_at p initial) (sym here))

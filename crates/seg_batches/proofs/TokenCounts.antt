@@ -1,9 +1,10 @@
 -- What the file of postings of documents tells: how often the terms of each field occur.
-use Rattle.std.proofs.Common.{◌≡◌, ◌∙◌, ℕ, zero, suc, ◌+◌, List, [], ◌∷◌, Some, ap, arith}
+use Rattle.std.proofs.Common.{◌≡◌, ◌∙◌, ℕ, List, Some, ap, arith}
 use Rattle.std.specs.Prelude.{option_map, option_and_then}
 use Rattle.std.specs.FinMap.{entries}
-use Rattle.std.specs.List.{enumerate_from, slice_get}
-use Rattle.std.proofs.lemmas.Option.{none-some, same_Some, slice_get-map}
+use Rattle.std.specs.List.{slice_get}
+use Rattle.std.proofs.lemmas.Option.{slice_get-map}
+use Rattle.seg_segment.proofs.Exports.{entry_at}
 use Rattle.seg_common.specs.LittleEndian.{u64_at}
 use Rattle.seg_values.specs.Tree.{Document}
 use Rattle.seg_values.specs.declared.schema.FieldEntry.{FieldEntry}
@@ -16,15 +17,6 @@ use Rattle.seg_segment.specs.declared.segment_files.SegmentFiles.{SegmentFiles}
 use Rattle.seg_build.specs.FieldTerms.{FieldTerms, asked_by, fields_of}
 use Rattle.seg_build.specs.PostingsTotals.{TotalsAreCounts}
 use Rattle.seg_batches.specs.BatchTotals.{documents_total}
-
--- an entry with its number
-entry_at : (n k : ℕ) (es : List FieldEntry) (e : FieldEntry) → slice_get es k ≡ Some e → (i : ℕ) → n + k ≡ i
-    → slice_get (enumerate_from n es) k ≡ Some (i, e)
-entry_at n k [] e is i at = absurd (none-some e is)
-entry_at n zero (x ∷ es) e is i at =
-    let place : n ≡ i = omega (arith, at) in
-    ap (λ y. Some (n, y)) (same_Some x e is) ∙ ap (λ j. Some (j, e)) place
-entry_at n (suc k) (x ∷ es) e is i at = entry_at (n + 1) k es e is i (omega (arith, at))
 
 module _ (schema : Schema) (analyzer : Analyzer) (documents : List Document) where
   -- what is gathered of a field

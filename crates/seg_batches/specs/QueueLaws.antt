@@ -5,7 +5,7 @@ use Rattle.seg_batches.specs.Queues.{skipped}
 
 -- from the position on the stop is the first place at which the list ends or the stamp is at least the target
 pub record IsFirst {T : Type 0} (target : ℕ) (operations : List (DeleteOperation T)) (position stop : ℕ) : Type 0 where
-  pub behind : position ≤ stop
+  pub later : position ≤ stop
   pub within : stop ≤ length operations
   pub reached : IfSome (slice_get operations stop) (λ o. target ≤ o.opstamp)
   pub passed : (k : ℕ) → position ≤ k → k < stop → IsSomeAnd (slice_get operations k) (λ o. o.opstamp < target)

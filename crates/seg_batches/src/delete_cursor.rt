@@ -83,7 +83,7 @@ impl DeleteCursor {
 
     fn is_behind<T>(&self, queue: &mut DeleteQueue<T>, target: Opstamp) -> bool
         requires { self.now ≤ queue.old.flushed }
-        ensures behind { result ≡ is_behind target (slice_get queue.old.operations self.now) }
+        ensures below { result ≡ is_behind target (slice_get queue.old.operations self.now) }
         ensures queue { IsFlushedAt self.now queue.old queue.new }
     {
         match queue.get(self) {

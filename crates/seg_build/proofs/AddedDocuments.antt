@@ -41,7 +41,7 @@ module _ (analyzer : Analyzer) where
       → IsUnderWay analyzer old → IsUnderWay analyzer new
   added document stamp old new adds under =
       let some = some_documents (λ ds ss kept. IsKeptOf old.schema analyzer old.block_size ds ss kept) old.kept adds.place under in
-      writes_some new _ _ (adds.behind some.0 some.1 some.2)
+      writes_some new _ _ (adds.following some.0 some.1 some.2)
 
   lost_or_same : (document : Document) (stamp : ℕ) (old new : SegmentWriting) (e : TantivyError)
       → AddsNone analyzer document stamp old new e → (new.kept ≡ None) ⊎ (new ≡ old)

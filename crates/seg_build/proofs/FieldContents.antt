@@ -14,10 +14,10 @@ use Rattle.seg_model.specs.Norms.{token_count, kind_length}
 use Rattle.seg_model.specs.Occurrences.{Occurrence, at_zero, counted, start_after, start_after_all, placed_from, value_tokens, value_terms, text_occurrences, kind_occurrences}
 use Rattle.seg_check.specs.IndexedValues.{IndexedContent, tokens, leaves, terms, kind_content}
 use Rattle.seg_build.specs.AddedValues.{Starts, first_starts, occurrences_in, count_in, next_starts, length_in, TextsFit}
-use Rattle.seg_build.specs.LeafPositions.{behind_leaves, leaves_occur}
+use Rattle.seg_build.specs.LeafPositions.{after_leaves, leaves_occur}
 use Rattle.seg_build.specs.MemoryUsage.{total}
 use Rattle.seg_build.proofs.JsonLimits.{path_ends}
-use Rattle.seg_build.proofs.ModelLeaves.{contents, contents-append, leaves_occur-append, behind_leaves-append, leaves-length, behind_leaves-ge, leaves_fit, leaves_occur-model, behind-model, reach-ge}
+use Rattle.seg_build.proofs.ModelLeaves.{contents, contents-append, leaves_occur-append, after_leaves-append, leaves-length, after_leaves-ge, leaves_fit, leaves_occur-model, following-model, reach-ge}
 
 -- the occurrences in some values
 abbrev pub occurrences_from : Starts → List IndexedContent → List Occurrence
@@ -57,7 +57,7 @@ here-ge starts (terms ts) = omega arith
 
 at-ge : (starts : Starts) (c : IndexedContent) (path : List ℕ) → starts.at path ≤ (next_starts starts c).at path
 at-ge starts (tokens ts) path = omega arith
-at-ge starts (leaves ls) path = behind_leaves-ge starts.at ls path
+at-ge starts (leaves ls) path = after_leaves-ge starts.at ls path
 at-ge starts (terms ts) path = omega arith
 
 -- texts begin at u32s
@@ -201,19 +201,19 @@ module _ (expand_dots : Bool) (analyze : List ℕ → List Token) where
       let both = and_parts (is_u32 (start_after_all 0 texts)) (is_u32 (count_of texts)) (and_parts (is_u32 (start_after_all 0 texts) && is_u32 (count_of texts)) (is_u32 (length texts)) fits).0 in
       record { end = ltb-true (start_after_all 0 texts) (2 ^ 32) both.0; count = ltb-true (count_of texts) (2 ^ 32) both.1 }
 
-  leaves_end : (starts : Starts) (values : List Tree) → start_after_values starts (json_contents expand_dots analyze values) ≡ record { here = starts.here; at = behind_leaves starts.at (contents expand_dots analyze (model.leaves_of values)) }
+  leaves_end : (starts : Starts) (values : List Tree) → start_after_values starts (json_contents expand_dots analyze values) ≡ record { here = starts.here; at = after_leaves starts.at (contents expand_dots analyze (model.leaves_of values)) }
   leaves_end starts [] = refl
   leaves_end starts (t ∷ ts) =
       let ls = contents expand_dots analyze (model.leaves t) in
       leaves_end (next_starts starts (leaves ls)) ts
       ∙ ap (λ (f : List ℕ → ℕ). record { here = starts.here; at = f }) (
-      sym (behind_leaves-append starts.at ls (contents expand_dots analyze (model.leaves_of ts)))
-      ∙ ap (behind_leaves starts.at) (sym (contents-append expand_dots analyze (model.leaves t) (model.leaves_of ts))))
+      sym (after_leaves-append starts.at ls (contents expand_dots analyze (model.leaves_of ts)))
+      ∙ ap (after_leaves starts.at) (sym (contents-append expand_dots analyze (model.leaves t) (model.leaves_of ts))))
 
   json_low : (values : List Tree) → kind_fits Json expand_dots analyze values ≡ true → AreLow (start_after_values first_starts (json_contents expand_dots analyze values))
   json_low values fits = subst AreLow (sym (leaves_end first_starts values)) (record {
     here = zero_low;
-    at = λ path. subst (λ n. n < 2 ^ 32) (sym (behind-model expand_dots analyze [] (model.leaves_of values) (λ path. 0) (λ path. refl) path)) (path_ends expand_dots analyze values fits path);
+    at = λ path. subst (λ n. n < 2 ^ 32) (sym (following-model expand_dots analyze [] (model.leaves_of values) (λ path. 0) (λ path. refl) path)) (path_ends expand_dots analyze values fits path);
   })
 
   -- values that are within the limits are bounded

@@ -5,9 +5,9 @@ use Rattle.seg_tokens.specs.declared.token.Token.{Token}
 use Rattle.std.specs.List.{slice_index_or}
 use Rattle.seg_model.specs.DocumentTerms.{Terms}
 use Rattle.seg_terms.specs.AddedOccurrences.{with_occurrences}
-use Rattle.seg_check.specs.LeafContents.{LeafContent, leaf_with, texts_behind, with_texts}
+use Rattle.seg_check.specs.LeafContents.{LeafContent, leaf_with, texts_after, with_texts}
 use Rattle.seg_build.specs.GatheredFieldTerms.{Gathered, json_gathered, with_leaf, with_leaves, AddsLeaf}
-use Rattle.seg_build.specs.LeafPositions.{PathLeaves, leaf_occur, leaf_count, LeafFits, behind_leaf, leaves_occur, leaves_count, LeavesFit, kept_start, kept_starts}
+use Rattle.seg_build.specs.LeafPositions.{PathLeaves, leaf_occur, leaf_count, LeafFits, after_leaf, leaves_occur, leaves_count, LeavesFit, kept_start, kept_starts}
 use Rattle.seg_build.specs.MemoryUsage.{saturated}
 use Rattle.seg_build.specs.PathStarts.{path_start}
 use Rattle.seg_build.specs.declared.json_terms.JsonTerms.{JsonTerms}
@@ -27,12 +27,12 @@ gathered-leaves document g (l ∷ ls) =
     let at = path_start document g.starts in
     let here = leaf_occur l.0 (at l.0) l.1 in
     let starts = kept_starts document (kept_start document g.starts l.0 l.1) ls in
-    let behind : path_start document (kept_start document g.starts l.0 l.1)
-    ≡ behind_leaf at l = λ i path. one_kept document g.starts l.0 l.1 path i in
+    let following : path_start document (kept_start document g.starts l.0 l.1)
+    ≡ after_leaf at l = λ i path. one_kept document g.starts l.0 l.1 path i in
     gathered-leaves document (with_leaf document g l) ls
     ∙ ap (λ (t : Terms). record { terms = t; starts = starts }) (
-    ap (λ f. with_occurrences (with_occurrences g.terms document here) document (leaves_occur f ls)) behind
-    ∙ sym (with_occurrences-append g.terms document here (leaves_occur (behind_leaf at l) ls)))
+    ap (λ f. with_occurrences (with_occurrences g.terms document here) document (leaves_occur f ls)) following
+    ∙ sym (with_occurrences-append g.terms document here (leaves_occur (after_leaf at l) ls)))
 
 -- ---- a turn of the loop
 
@@ -48,7 +48,7 @@ module _ (document : ℕ) (before after : JsonTerms) (texts : List (List Token))
   own = (path, leaf_with texts l)
 
   abbrev others : PathLeaves
-  others = with_texts (texts_behind texts l) rest
+  others = with_texts (texts_after texts l) rest
 
   now : json_gathered after ≡ with_leaf document (json_gathered before) own
   now = adds.gathered_now ∙ ap (λ c. with_leaf document (json_gathered before) (path, c)) (first_left texts l)
@@ -73,14 +73,14 @@ module _ (document : ℕ) (before after : JsonTerms) (texts : List (List Token))
       → LeavesFit (path_start document (json_gathered after).starts) others
   fit_with fit =
       let starts : path_start document (json_gathered after).starts
-      ≡ behind_leaf (path_start document (json_gathered before).starts) own =
+      ≡ after_leaf (path_start document (json_gathered before).starts) own =
       ap (λ (g : Gathered). path_start document g.starts) now
       ∙ (λ i q. one_kept document (json_gathered before).starts own.0 own.1 q i) in
       subst (λ f. LeavesFit f others) (sym starts) (fit_cut fit).1
 
   -- the texts that are left after the leaf
-  module _ (behind : List (List Token)) (moved : behind ≡ texts_behind texts l) where
-    pub leaves_turn : with_leaves document (json_gathered after) (with_texts behind rest)
+  module _ (following : List (List Token)) (moved : following ≡ texts_after texts l) where
+    pub leaves_turn : with_leaves document (json_gathered after) (with_texts following rest)
         ≡ with_leaves document (json_gathered before) (with_texts texts left)
     leaves_turn =
         ap (λ ts. with_leaves document (json_gathered after) (with_texts ts rest)) moved
@@ -89,12 +89,12 @@ module _ (document : ℕ) (before after : JsonTerms) (texts : List (List Token))
 
     pub count_turn : (count more sum : ℕ) → more ≡ leaf_count (leaf_with (slice_index_or texts 0 [] ∷ []) l)
         → sum ≡ min (count + more) (2 ^ 64 - 1)
-        → saturated (sum + leaves_count (with_texts behind rest)) ≡ saturated (count + leaves_count (with_texts texts left))
+        → saturated (sum + leaves_count (with_texts following rest)) ≡ saturated (count + leaves_count (with_texts texts left))
     count_turn count more sum some total =
         ap (λ ts. saturated (sum + leaves_count (with_texts ts rest))) moved ∙ count_with count more sum some total
 
     pub fit_turn : LeavesFit (path_start document (json_gathered before).starts) (with_texts texts left)
-        → LeavesFit (path_start document (json_gathered after).starts) (with_texts behind rest)
+        → LeavesFit (path_start document (json_gathered after).starts) (with_texts following rest)
     fit_turn fit =
         subst (λ ts. LeavesFit (path_start document (json_gathered after).starts) (with_texts ts rest)) (sym moved) (fit_with fit)
 

@@ -18,6 +18,7 @@ use Rattle.seg_model.specs.DocumentTerms.{positions_of, type_code}
 use Rattle.seg_model.specs.Shape.{path_part}
 use Rattle.seg_model.proofs.Exports.{path_part-path, type_code-path}
 use Rattle.seg_build.proofs.PlainPaths.{IsPlainLeaf, value_part, value_after, in_parts}
+use Rattle.seg_build.proofs.ModelLeaves.{starts_add}
 
 -- ---- positions of some bytes
 
@@ -189,11 +190,6 @@ single q x = by (bytes_eq q x)
 module _ (e : Bool) (analyze : List ℕ → List Token) (q : List ℕ) where
   abbrev own : List ℕ
   own = path_part q
-
-  starts_add : (start : ℕ) (xs ys : List (List Token)) → start_after_all start (xs ++ ys)
-      ≡ start_after_all (start_after_all start xs) ys
-  starts_add start [] ys = refl
-  starts_add start (x ∷ xs) ys = starts_add (start_after start x) xs ys
 
   texts_add : (start : ℕ) (xs ys : List (List Token)) → text_occurrences start (xs ++ ys)
       ≡ text_occurrences start xs ++ text_occurrences (start_after_all start xs) ys

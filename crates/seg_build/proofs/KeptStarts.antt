@@ -12,7 +12,7 @@ use Rattle.std.proofs.lemmas.Map.Text.{is_eq-slice_cmp}
 use Rattle.std.proofs.lemmas.Option.{same_Some}
 use Rattle.seg_model.specs.Occurrences.{start_after}
 use Rattle.seg_check.specs.LeafContents.{LeafContent, text_leaf, coded_leaf}
-use Rattle.seg_build.specs.LeafPositions.{PathLeaves, kept_start, behind_leaf, behind_leaves, kept_starts}
+use Rattle.seg_build.specs.LeafPositions.{PathLeaves, kept_start, after_leaf, after_leaves, kept_starts}
 use Rattle.seg_build.specs.PathStarts.{PathStarts, start_in, path_start}
 use Rattle.seg_build.specs.declared.path_start.PathStart.{PathStart}
 
@@ -37,7 +37,7 @@ module _ (id : ℕ) (starts : PathStarts) where
   not_moved own path false is = refl
 
   pub one_kept : (own : List ℕ) (c : LeafContent) (path : List ℕ) → path_start id (kept_start id starts own c) path
-      ≡ behind_leaf (path_start id starts) (own, c) path
+      ≡ after_leaf (path_start id starts) (own, c) path
   one_kept own (text_leaf ts) path =
       let next = start_after (path_start id starts own) ts in
       ap (start_in id) (get-put starts own path (record { document = id; start = next }))
@@ -46,11 +46,11 @@ module _ (id : ℕ) (starts : PathStarts) where
 
 -- what is kept of leaves says where texts begin after them
 pub path_start-kept : (id : ℕ) (starts : PathStarts) (ls : PathLeaves) (path : List ℕ)
-    → path_start id (kept_starts id starts ls) path ≡ behind_leaves (path_start id starts) ls path
+    → path_start id (kept_starts id starts ls) path ≡ after_leaves (path_start id starts) ls path
 path_start-kept id starts [] path = refl
 path_start-kept id starts (l ∷ ls) path =
     path_start-kept id (kept_start id starts l.0 l.1) ls path
-    ∙ ap (λ (f : List ℕ → ℕ). behind_leaves f ls path) (λ i q. one_kept id starts l.0 l.1 q i)
+    ∙ ap (λ (f : List ℕ → ℕ). after_leaves f ls path) (λ i q. one_kept id starts l.0 l.1 q i)
 
 -- ---- stamps
 

@@ -1,3 +1,4 @@
+pub mod Exports
 mod AddedDocuments
 mod AllDocuments
 mod DocumentsOfFiles

@@ -10,22 +10,28 @@ use Rattle.seg_model.specs.Leaves.{PlacedLeaf, joined_path}
 use Rattle.seg_model.specs.Occurrences.{Occurrence, at_zero, counted, reach, start_after, start_after_all, leaf_text, texts_at, leaf_occurrences, json_occurrences}
 use Rattle.seg_check.specs.LeafContents.{LeafContent, text_leaf, coded_leaf, leaf_content}
 use Rattle.seg_check.specs.Paths.{at_path}
-use Rattle.seg_build.specs.LeafPositions.{PathLeaves, leaf_occur, leaf_count, leaf_next, LeafFits, behind_leaf, behind_leaves, leaves_occur, leaves_count, LeavesFit}
+use Rattle.seg_build.specs.LeafPositions.{PathLeaves, leaf_occur, leaf_count, leaf_next, LeafFits, after_leaf, after_leaves, leaves_occur, leaves_count, LeavesFit}
 
 -- ---- in two parts
 
 pub leaves_occur-append : (at : List ℕ → ℕ) (xs ys : PathLeaves) → leaves_occur at (xs ++ ys)
-    ≡ leaves_occur at xs ++ leaves_occur (behind_leaves at xs) ys
+    ≡ leaves_occur at xs ++ leaves_occur (after_leaves at xs) ys
 leaves_occur-append at [] ys = refl
 leaves_occur-append at (x ∷ xs) ys =
-    ap (λ l. leaf_occur x.0 (at x.0) x.1 ++ l) (leaves_occur-append (behind_leaf at x) xs ys)
-    ∙ sym (append_assoc (leaf_occur x.0 (at x.0) x.1) (leaves_occur (behind_leaf at x) xs)
-    (leaves_occur (behind_leaves (behind_leaf at x) xs) ys))
+    ap (λ l. leaf_occur x.0 (at x.0) x.1 ++ l) (leaves_occur-append (after_leaf at x) xs ys)
+    ∙ sym (append_assoc (leaf_occur x.0 (at x.0) x.1) (leaves_occur (after_leaf at x) xs)
+    (leaves_occur (after_leaves (after_leaf at x) xs) ys))
 
-pub behind_leaves-append : (at : List ℕ → ℕ) (xs ys : PathLeaves) → behind_leaves at (xs ++ ys)
-    ≡ behind_leaves (behind_leaves at xs) ys
-behind_leaves-append at [] ys = refl
-behind_leaves-append at (x ∷ xs) ys = behind_leaves-append (behind_leaf at x) xs ys
+pub after_leaves-append : (at : List ℕ → ℕ) (xs ys : PathLeaves) → after_leaves at (xs ++ ys)
+    ≡ after_leaves (after_leaves at xs) ys
+after_leaves-append at [] ys = refl
+after_leaves-append at (x ∷ xs) ys = after_leaves-append (after_leaf at x) xs ys
+
+-- where the texts after some begin
+pub starts_add : (start : ℕ) (xs ys : List (List Token)) → start_after_all start (xs ++ ys)
+    ≡ start_after_all (start_after_all start xs) ys
+starts_add start [] ys = refl
+starts_add start (x ∷ xs) ys = starts_add (start_after start x) xs ys
 
 -- ---- how many occurrences there are
 
@@ -39,10 +45,10 @@ leaves-length at [] = refl
 leaves-length at (l ∷ ls) =
     omega (
       arith,
-      length-append (leaf_occur l.0 (at l.0) l.1) (leaves_occur (behind_leaf at l) ls),
+      length-append (leaf_occur l.0 (at l.0) l.1) (leaves_occur (after_leaf at l) ls),
       one_length l.0
           (at l.0) l.1,
-      leaves-length (behind_leaf at l) ls,
+      leaves-length (after_leaf at l) ls,
     )
 
 -- ---- where texts begin
@@ -57,40 +63,40 @@ leaf_next-ge start (coded_leaf coded) = omega arith
 
 module _ (at : List ℕ → ℕ) (l : List ℕ × LeafContent) where
   -- the path of the leaf
-  pub behind-own : (path : List ℕ) → bytes_eq path l.0 ≡ true → behind_leaf at l path ≡ leaf_next (at l.0) l.1
-  behind-own path own = ap (λ b. cond b (leaf_next (at l.0) l.1) (at path)) own
+  pub following-own : (path : List ℕ) → bytes_eq path l.0 ≡ true → after_leaf at l path ≡ leaf_next (at l.0) l.1
+  following-own path own = ap (λ b. cond b (leaf_next (at l.0) l.1) (at path)) own
 
   -- and any other
-  pub behind-other : (path : List ℕ) → bytes_eq path l.0 ≡ false → behind_leaf at l path ≡ at path
-  behind-other path other = ap (λ b. cond b (leaf_next (at l.0) l.1) (at path)) other
+  pub following-other : (path : List ℕ) → bytes_eq path l.0 ≡ false → after_leaf at l path ≡ at path
+  following-other path other = ap (λ b. cond b (leaf_next (at l.0) l.1) (at path)) other
 
-  behind-ge : (path : List ℕ) → at path ≤ behind_leaf at l path
-  behind-ge path = by (bytes_eq path l.0) refl
+  following-ge : (path : List ℕ) → at path ≤ after_leaf at l path
+  following-ge path = by (bytes_eq path l.0) refl
     where
-      by : (b : Bool) → bytes_eq path l.0 ≡ b → at path ≤ behind_leaf at l path
+      by : (b : Bool) → bytes_eq path l.0 ≡ b → at path ≤ after_leaf at l path
       by true own =
           let same : path ≡ l.0 = (bytes_decides path l.0).0 own in
-          subst (λ n. at path ≤ n) (sym (behind-own path own))
+          subst (λ n. at path ≤ n) (sym (following-own path own))
           (subst (λ (q : List ℕ). at q ≤ leaf_next (at l.0) l.1) (sym same) (leaf_next-ge (at l.0) l.1))
-      by false other = subst (λ n. at path ≤ n) (sym (behind-other path other)) (omega arith)
+      by false other = subst (λ n. at path ≤ n) (sym (following-other path other)) (omega arith)
 
-pub behind_leaves-ge : (at : List ℕ → ℕ) (ls : PathLeaves) (path : List ℕ) → at path ≤ behind_leaves at ls path
-behind_leaves-ge at [] path = omega arith
-behind_leaves-ge at (l ∷ ls) path = omega (arith, behind-ge at l path, behind_leaves-ge (behind_leaf at l) ls path)
+pub after_leaves-ge : (at : List ℕ → ℕ) (ls : PathLeaves) (path : List ℕ) → at path ≤ after_leaves at ls path
+after_leaves-ge at [] path = omega arith
+after_leaves-ge at (l ∷ ls) path = omega (arith, following-ge at l path, after_leaves-ge (after_leaf at l) ls path)
 
 leaf_fits : (start : ℕ) (c : LeafContent) → leaf_next start c < 2 ^ 32 → LeafFits start c
 leaf_fits start (text_leaf ts) low = low
 leaf_fits start (coded_leaf coded) low = tt
 
 -- leaves fit where their texts end low enough at every path
-pub leaves_fit : (at : List ℕ → ℕ) (ls : PathLeaves) → ((path : List ℕ) → behind_leaves at ls path < 2 ^ 32)
+pub leaves_fit : (at : List ℕ → ℕ) (ls : PathLeaves) → ((path : List ℕ) → after_leaves at ls path < 2 ^ 32)
     → LeavesFit at ls
 leaves_fit at [] low = tt
 leaves_fit at (l ∷ ls) low =
-    let own : behind_leaf at l l.0 ≡ leaf_next (at l.0) l.1 = behind-own at l l.0 ((bytes_decides l.0 l.0).1 refl) in
-    let ge = behind_leaves-ge (behind_leaf at l) ls l.0 in
+    let own : after_leaf at l l.0 ≡ leaf_next (at l.0) l.1 = following-own at l l.0 ((bytes_decides l.0 l.0).1 refl) in
+    let ge = after_leaves-ge (after_leaf at l) ls l.0 in
     let here = low l.0 in
-    (leaf_fits (at l.0) l.1 (omega (arith, own, ge, here)), leaves_fit (behind_leaf at l) ls low)
+    (leaf_fits (at l.0) l.1 (omega (arith, own, ge, here)), leaves_fit (after_leaf at l) ls low)
 
 -- ---- the leaves of values
 
@@ -116,11 +122,6 @@ module _ (e : Bool) (analyze : List ℕ → List Token) where
   one_moves start (text s) = refl
   one_moves start l = refl
 
-  starts_add : (start : ℕ) (xs ys : List (List Token)) → start_after_all start (xs ++ ys)
-      ≡ start_after_all (start_after_all start xs) ys
-  starts_add start [] ys = refl
-  starts_add start (x ∷ xs) ys = starts_add (start_after start x) xs ys
-
   texts_at-last : (path : List ℕ) (before : List PlacedLeaf) (p : PlacedLeaf)
       → texts_at e analyze path (before ++ p ∷ [])
       ≡ texts_at e analyze path before ++ cond (bytes_eq path (joined_path e p.keys)) (map analyze (leaf_text p.leaf))
@@ -139,19 +140,19 @@ module _ (e : Bool) (analyze : List ℕ → List Token) where
     own_texts = map analyze (leaf_text p.leaf)
 
     last_by : (path : List ℕ) (b : Bool) → bytes_eq path own ≡ b
-        → behind_leaf at (own, leaf_content analyze p.leaf) path
+        → after_leaf at (own, leaf_content analyze p.leaf) path
         ≡ start_after_all (start_after_all 0 (texts_at e analyze path before)) (cond (bytes_eq path own) own_texts [])
     last_by path true is =
-        behind-own at (own, leaf_content analyze p.leaf) path is
+        following-own at (own, leaf_content analyze p.leaf) path is
         ∙ one_moves (at own) p.leaf
         ∙ ap (λ n. start_after_all n own_texts) (ap at (sym ((bytes_decides path own).0 is)) ∙ are path)
         ∙ ap (λ b. start_after_all (start_after_all 0 (texts_at e analyze path before)) (cond b own_texts [])) (sym is)
     last_by path false is =
-        behind-other at (own, leaf_content analyze p.leaf) path is
+        following-other at (own, leaf_content analyze p.leaf) path is
         ∙ are path
         ∙ ap (λ b. start_after_all (start_after_all 0 (texts_at e analyze path before)) (cond b own_texts [])) (sym is)
 
-    starts-last : (path : List ℕ) → behind_leaf at (own, leaf_content analyze p.leaf) path
+    starts-last : (path : List ℕ) → after_leaf at (own, leaf_content analyze p.leaf) path
         ≡ start_after_all 0 (texts_at e analyze path (before ++ p ∷ []))
     starts-last path =
         last_by path (bytes_eq path own) refl
@@ -169,18 +170,18 @@ module _ (e : Bool) (analyze : List ℕ → List Token) where
       ≡ leaf_occurrences analyze own (start_after_all 0 (texts_at e analyze own before)) p.leaf =
       ap (λ n. leaf_occur own n (leaf_content analyze p.leaf)) (are own)
       ∙ one_occurs own (start_after_all 0 (texts_at e analyze own before)) p.leaf in
-      let rest = leaves_occur-model (before ++ p ∷ []) found (behind_leaf at (own, leaf_content analyze p.leaf))
+      let rest = leaves_occur-model (before ++ p ∷ []) found (after_leaf at (own, leaf_content analyze p.leaf))
       (starts-last before p at are) in
       λ i. first i ++ rest i
 
   -- and so is where texts begin after them
-  pub behind-model : (before found : List PlacedLeaf) (at : List ℕ → ℕ)
+  pub following-model : (before found : List PlacedLeaf) (at : List ℕ → ℕ)
       → ((path : List ℕ) → at path ≡ start_after_all 0 (texts_at e analyze path before))
-      → (path : List ℕ) → behind_leaves at (contents found) path
+      → (path : List ℕ) → after_leaves at (contents found) path
       ≡ start_after_all 0 (texts_at e analyze path (before ++ found))
-  behind-model before [] at are path = are path
+  following-model before [] at are path = are path
       ∙ ap (λ l. start_after_all 0 (texts_at e analyze path l)) (sym (append-nil before))
-  behind-model before (p ∷ found) at are path =
-      behind-model (before ++ p ∷ []) found (behind_leaf at (joined_path e p.keys, leaf_content analyze p.leaf))
+  following-model before (p ∷ found) at are path =
+      following-model (before ++ p ∷ []) found (after_leaf at (joined_path e p.keys, leaf_content analyze p.leaf))
       (starts-last before p at are) path
       ∙ ap (λ l. start_after_all 0 (texts_at e analyze path l)) (append_assoc before (p ∷ []) found)

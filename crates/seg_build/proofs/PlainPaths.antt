@@ -3,6 +3,7 @@ use Rattle.std.proofs.Common.{◌≡◌, ℕ, suc, ◌<◌, Bool, true, false, c
 use Rattle.std.specs.Prelude.{◌==◌}
 use Rattle.std.specs.List.{AllByRecursion, join_with_byte}
 use Rattle.std.proofs.lemmas.Bool.{true≢false, eqb-true}
+use Rattle.seg_paths.specs.Paths.{HaveNoZero}
 use Rattle.seg_values.specs.Tree.{Tree, leaf, array, object, Trees, no_trees, tree, Members, no_members, member}
 use Rattle.seg_common.proofs.Lists.{all_both}
 use Rattle.seg_model.specs.DocumentCheck.{json_key, unless, has_no_zero, tree_refusal, trees_refusal, members_refusal}
@@ -13,15 +14,12 @@ use Rattle.seg_model.proofs.Exports.{or_first, or_second, unless_true, has_no_ze
 
 -- ---- keys without a byte 0
 
-abbrev ArePlain : List (List ℕ) → Type 0
-ArePlain keys = AllByRecursion (λ k. has_no_zero k ≡ true) keys
-
-plain-join : (keys : List (List ℕ)) → ArePlain keys → has_no_zero (join_with_byte 1 keys) ≡ true
+plain-join : (keys : List (List ℕ)) → HaveNoZero keys → has_no_zero (join_with_byte 1 keys) ≡ true
 plain-join [] h = refl
 plain-join (k ∷ []) h = h.0
 plain-join (k ∷ j ∷ keys) h = has_no_zero-append k _ h.0 (plain-join (j ∷ keys) h.1)
 
-plain-joined : (e : Bool) (keys : List (List ℕ)) → ArePlain keys → has_no_zero (joined_path e keys) ≡ true
+plain-joined : (e : Bool) (keys : List (List ℕ)) → HaveNoZero keys → has_no_zero (joined_path e keys) ≡ true
 plain-joined true keys h = has_no_zero-dots (join_with_byte 1 keys) (plain-join keys h)
 plain-joined false keys h = plain-join keys h
 
@@ -32,20 +30,20 @@ module _ (e : Bool) where
   IsPlainLeaf p = has_no_zero (joined_path e p.keys) ≡ true
 
   mutual
-    plain_leaves : (keys : List (List ℕ)) (level : ℕ) (t : Tree) → ArePlain keys → tree_refusal t ≡ None
+    plain_leaves : (keys : List (List ℕ)) (level : ℕ) (t : Tree) → HaveNoZero keys → tree_refusal t ≡ None
         → AllByRecursion IsPlainLeaf (leaves_at keys level t)
     plain_leaves keys level (leaf l) z r = (plain-joined e keys z, tt)
     plain_leaves keys level (array ts) z r = plain_tree_leaves keys (level_in_array level) ts z r
     plain_leaves keys level (object ms) z r = plain_member_leaves keys (suc level) ms z r
 
-    plain_tree_leaves : (keys : List (List ℕ)) (level : ℕ) (ts : Trees) → ArePlain keys → trees_refusal ts ≡ None
+    plain_tree_leaves : (keys : List (List ℕ)) (level : ℕ) (ts : Trees) → HaveNoZero keys → trees_refusal ts ≡ None
         → AllByRecursion IsPlainLeaf (leaves_of_trees keys level ts)
     plain_tree_leaves keys level no_trees z r = tt
     plain_tree_leaves keys level (tree t ts) z r = all_both IsPlainLeaf _ _
         (plain_leaves keys level t z (or_first (tree_refusal t) _ r))
         (plain_tree_leaves keys level ts z (or_second (tree_refusal t) _ r))
 
-    plain_member_leaves : (keys : List (List ℕ)) (level : ℕ) (ms : Members) → ArePlain keys → members_refusal ms ≡ None
+    plain_member_leaves : (keys : List (List ℕ)) (level : ℕ) (ms : Members) → HaveNoZero keys → members_refusal ms ≡ None
         → AllByRecursion IsPlainLeaf (leaves_of_members keys level ms)
     plain_member_leaves keys level no_members z r = tt
     plain_member_leaves keys level (member key t ms) z r =

@@ -109,8 +109,8 @@ starts-extended old new kept more few = starts-from old kept (starts_of new kept
         → if_text (kept_by kept o) ≡ None
     past path none None is = refl
     past path none (Some n) is =
-        let behind = number-past old new path n more none is in
-        ap if_text (get_or_past kept n blank (omega (arith, behind, few)))
+        let following = number-past old new path n more none is in
+        ap if_text (get_or_past kept n blank (omega (arith, following, few)))
 
     by : (path : List ℕ) (o : Option ℕ) → number_of old path ≡ o → kept_at new kept path ≡ if_text (kept_by kept o)
     by path None is = past path is (number_of new path) refl

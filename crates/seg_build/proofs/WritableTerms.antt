@@ -55,15 +55,15 @@ placed_at os = map (λ (o : Occurrence). o.position) os
 
 rise_lower : (low before : ℕ) (ps : List ℕ) → low ≤ before → Rise before ps → Rise low ps
 rise_lower low before [] le h = tt
-rise_lower low before (p ∷ ps) le (behind, small, rest) = (omega (arith, le, behind), small, rest)
+rise_lower low before (p ∷ ps) le (following, small, rest) = (omega (arith, le, following), small, rest)
 
 -- those of one term rise too
 rise_some : (q : List ℕ) (before : ℕ) (os : List Occurrence) → Rise before (placed_at os) → Rise before (positions_of q os)
 rise_some q before [] h = tt
-rise_some q before (o ∷ os) (behind, small, rest) =
+rise_some q before (o ∷ os) (following, small, rest) =
     elim (bytes_eq q o.bytes) as (λ b. Rise before (map (λ (y : Occurrence). y.position) (cond b (o ∷ filter (λ y. bytes_eq q y.bytes) os) (filter (λ y. bytes_eq q y.bytes) os)))) [
-      | true ↦ (behind, small, rise_some q o.position os rest)
-      | false ↦ rise_lower before o.position (positions_of q os) behind (rise_some q o.position os rest)
+      | true ↦ (following, small, rise_some q o.position os rest)
+      | false ↦ rise_lower before o.position (positions_of q os) following (rise_some q o.position os rest)
     ]
 
 -- and are no more

@@ -203,5 +203,5 @@ module _ (schema : Schema) (analyzer : Analyzer) (d : Document) (taken : is_take
     adds id size = record {
       place = to_parts HasPlace parts p is place;
       taken = taken;
-      behind = λ documents stamps h. one_more schema analyzer documents d taken utf8 size stamps stamp (kept_of p) (of_parts (IsKeptOf schema analyzer size documents stamps) parts p is h) place in_order values values_are (kept_of new) took;
+      following = λ documents stamps h. one_more schema analyzer documents d taken utf8 size stamps stamp (kept_of p) (of_parts (IsKeptOf schema analyzer size documents stamps) parts p is h) place in_order values values_are (kept_of new) took;
     }

@@ -31,12 +31,12 @@ kept_of Positions r (ps, some, few, rise, is) =
 ascend_by : (kind : RecordKind) (before least : ℕ) (ps : List Posting) → AreWritable kind before least ps
     → AscendBy kind (before + least) ps
 ascend_by kind before least [] h = tt
-ascend_by kind before least (p ∷ ps) (behind, limit, is, rest) = let kept = kept_of kind p.recorded is in (behind, limit, kept.0, kept.1, ascend_by kind p.document 1 ps rest)
+ascend_by kind before least (p ∷ ps) (following, limit, is, rest) = let kept = kept_of kind p.recorded is in (following, limit, kept.0, kept.1, ascend_by kind p.document 1 ps rest)
 
 -- the kind of the first posting is the one of all
 pub first_keeps : (kind : RecordKind) (p : Posting) (ps : List Posting) → AreWritable kind 0 0 (p ∷ ps)
     → kind_kept p.recorded ≡ kind
-first_keeps kind p ps (behind, limit, is, rest) = (kept_of kind p.recorded is).0
+first_keeps kind p ps (following, limit, is, rest) = (kept_of kind p.recorded is).0
 
 pub are_of_term : (kind : RecordKind) (ps : List Posting) → AreWritable kind 0 0 ps → AreOfTerm ps
 are_of_term kind [] h = tt
@@ -45,8 +45,8 @@ are_of_term kind (p ∷ ps) h =
 
 kept_at : (kind : RecordKind) (before least : ℕ) (done : List Posting) (p : Posting) (later : List Posting)
     → AreWritable kind before least (done ++ p ∷ later) → IsOfKind kind p.recorded
-kept_at kind before least [] p later (behind, limit, is, rest) = is
-kept_at kind before least (q ∷ done) p later (behind, limit, is, rest) = kept_at kind q.document 1 done p later rest
+kept_at kind before least [] p later (following, limit, is, rest) = is
+kept_at kind before least (q ∷ done) p later (following, limit, is, rest) = kept_at kind q.document 1 done p later rest
 
 -- ---- the hits in one document
 

@@ -18,7 +18,7 @@ use Rattle.seg_meta.specs.ParsedMeta.{meta_read}
 use Rattle.seg_meta.specs.MetaText.{meta_text}
 use Rattle.seg_model.specs.Fields.{Schema, Analyzer}
 use Rattle.seg_model.specs.Input.{Settings}
-use Rattle.seg_segment.proofs.Exports.{held_on, keeps_untouched}
+use Rattle.seg_segment.proofs.Exports.{held_on, keeps_untouched, failing}
 use Rattle.seg_segment.specs.IndexForms.{segment_forms}
 use Rattle.seg_segment.specs.SegmentFiles.{KeepsAllBut, write_steps}
 use Rattle.seg_build.specs.FinishedFiles.{Finishes, FinishesKept as FinishesSegment, fails, makes}
@@ -91,9 +91,6 @@ module _ (meta : index.Meta) (schema : Schema) (id : ℕ) where
 
   abbrev Whole : {T : Type 0} → Option Kept → Result T TantivyError → DirectoryState → DirectoryState → Type 0
   Whole kept r a b = FinishesKept meta schema id kept r a b
-
-  abbrev failing : (T : Type 0) → TantivyError → Result T TantivyError
-  failing T e = Err e
 
   same_error : (S T : Type 0) (e d : TantivyError) → failing S e ≡ failing S d → failing T e ≡ Err d
   same_error S T e d is = ap (failing T) (cc is)

@@ -4,7 +4,7 @@ use Rattle.seg_model.specs.Occurrences.{Occurrence, at_zero, counted, placed_fro
 use Rattle.seg_check.specs.IndexedValues.{IndexedContent, tokens, leaves, terms}
 use Rattle.seg_terms.specs.AddedOccurrences.{with_occurrences}
 use Rattle.seg_build.specs.FieldState.{FieldSoFar}
-use Rattle.seg_build.specs.LeafPositions.{behind_leaves, leaves_occur, leaves_count, LeavesFit, kept_starts}
+use Rattle.seg_build.specs.LeafPositions.{after_leaves, leaves_occur, leaves_count, LeavesFit, kept_starts}
 use Rattle.seg_build.specs.PathStarts.{PathStarts, path_start}
 
 -- where texts begin in a document: the next one of a text field, and that of each joined path
@@ -31,7 +31,7 @@ count_in (terms ts) = length ts
 -- where texts begin after a value
 abbrev pub next_starts : Starts → IndexedContent → Starts
 next_starts starts (tokens ts) = record { here = start_after starts.here ts; at = starts.at }
-next_starts starts (leaves ls) = record { here = starts.here; at = behind_leaves starts.at ls }
+next_starts starts (leaves ls) = record { here = starts.here; at = after_leaves starts.at ls }
 next_starts starts (terms ts) = starts
 
 -- each text in a value ends at a u32

@@ -41,18 +41,18 @@ kept_start document starts path (coded_leaf coded) = starts
 -- ---- leaves one after another
 
 -- where texts begin after a leaf
-abbrev pub behind_leaf : (List ℕ → ℕ) → List ℕ × LeafContent → List ℕ → ℕ
-behind_leaf at l path = if bytes_eq path l.0 then leaf_next (at l.0) l.1 else at path
+abbrev pub after_leaf : (List ℕ → ℕ) → List ℕ × LeafContent → List ℕ → ℕ
+after_leaf at l path = if bytes_eq path l.0 then leaf_next (at l.0) l.1 else at path
 
 -- and after some
-abbrev pub behind_leaves : (List ℕ → ℕ) → PathLeaves → List ℕ → ℕ
-behind_leaves at [] = at
-behind_leaves at (l ∷ ls) = behind_leaves (behind_leaf at l) ls
+abbrev pub after_leaves : (List ℕ → ℕ) → PathLeaves → List ℕ → ℕ
+after_leaves at [] = at
+after_leaves at (l ∷ ls) = after_leaves (after_leaf at l) ls
 
 -- their occurrences
 abbrev pub leaves_occur : (List ℕ → ℕ) → PathLeaves → List Occurrence
 leaves_occur at [] = []
-leaves_occur at (l ∷ ls) = leaf_occur l.0 (at l.0) l.1 ++ leaves_occur (behind_leaf at l) ls
+leaves_occur at (l ∷ ls) = leaf_occur l.0 (at l.0) l.1 ++ leaves_occur (after_leaf at l) ls
 
 -- how many these are
 abbrev pub leaves_count : PathLeaves → ℕ
@@ -62,7 +62,7 @@ leaves_count (l ∷ ls) = leaf_count l.1 + leaves_count ls
 -- each text of them ends at a u32
 abbrev pub LeavesFit : (List ℕ → ℕ) → PathLeaves → Type 0
 LeavesFit at [] = Unit {0}
-LeavesFit at (l ∷ ls) = LeafFits (at l.0) l.1 × LeavesFit (behind_leaf at l) ls
+LeavesFit at (l ∷ ls) = LeafFits (at l.0) l.1 × LeavesFit (after_leaf at l) ls
 
 -- what is known of each path after them
 abbrev pub kept_starts : ℕ → PathStarts → PathLeaves → PathStarts

@@ -106,7 +106,7 @@ pub record IsOfSame (old new : SegmentWriting) : Type 0 where
 pub record Adds (analyzer : Analyzer) (document : Document) (stamp : ℕ) (old new : SegmentWriting) : Type 0 where
   pub place : IsSomeAnd old.kept HasPlace
   pub taken : is_taken old.schema analyzer document ≡ true
-  pub behind : (documents : List Document) (stamps : List ℕ) → Writes analyzer documents stamps old
+  pub following : (documents : List Document) (stamps : List ℕ) → Writes analyzer documents stamps old
       → Writes analyzer (documents ++ document ∷ []) (stamps ++ stamp ∷ []) new
 
 -- an error tells why a document is not taken; `stamp` is the place that it tells

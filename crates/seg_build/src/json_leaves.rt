@@ -74,7 +74,7 @@ impl JsonTerms {
             let tokens = first_tokens(rest);
             let more = self.add_leaf(alloc, document, path, leaf, tokens, &mut room)?;
             count = count.saturating_add(more);
-            rest = texts_behind(rest, leaf);
+            rest = texts_after(rest, leaf);
         }
         Ok(count)
     }
@@ -194,8 +194,8 @@ fn first_tokens(texts: &[Tokens]) -> &[Token]
 }
 
 /// The texts of the leaves after this one.
-fn texts_behind<'a>(texts: &'a [Tokens], leaf: &OwnedValue) -> &'a [Tokens]
-    ensures { result.now ≡ contents.texts_behind texts.now (leaf_in (tree_of leaf.now)) }
+fn texts_after<'a>(texts: &'a [Tokens], leaf: &OwnedValue) -> &'a [Tokens]
+    ensures { result.now ≡ contents.texts_after texts.now (leaf_in (tree_of leaf.now)) }
 {
     match leaf {
         OwnedValue::Str(_) if !texts.is_empty() => {

@@ -8,7 +8,7 @@ use Rattle.seg_model.specs.DocumentCheck.{value_texts}
 use Rattle.seg_model.specs.Leaves as model
 use Rattle.seg_model.specs.Occurrences.{leaf_text, value_tokens}
 use Rattle.seg_check.specs.IndexedValues.{tokens, leaves, content_from, kind_content}
-use Rattle.seg_check.specs.LeafContents.{leaf_content, leaf_with, texts_behind, with_texts}
+use Rattle.seg_check.specs.LeafContents.{leaf_content, leaf_with, texts_after, with_texts}
 use Rattle.seg_check.specs.Paths.{at_path, texts_of}
 use Rattle.seg_check.specs.TextTokens.{cut_or_given}
 use Rattle.seg_check.proofs.FieldValues.{texts-walked}
@@ -18,7 +18,7 @@ module _ (analyze : List ℕ → List Token) where
   first_cut (text s) rest = refl
   first_cut l rest = refl
 
-  others_cut : (l : Leaf) (rest : List (List Token)) → texts_behind (map analyze (leaf_text l) ++ rest) l ≡ rest
+  others_cut : (l : Leaf) (rest : List (List Token)) → texts_after (map analyze (leaf_text l) ++ rest) l ≡ rest
   others_cut (text s) rest = refl
   others_cut l rest = refl
 
@@ -28,7 +28,7 @@ module _ (analyze : List ℕ → List Token) where
   all_cut [] = refl
   all_cut (p ∷ found) =
       let first = first_cut p.1 (texts_of analyze found) in
-      let others : with_texts (texts_behind (map analyze (leaf_text p.1) ++ texts_of analyze found) p.1) found
+      let others : with_texts (texts_after (map analyze (leaf_text p.1) ++ texts_of analyze found) p.1) found
       ≡ map (λ (p : List ℕ × Leaf). (p.0, leaf_content analyze p.1)) found =
       ap (λ l. with_texts l found) (others_cut p.1 (texts_of analyze found)) ∙ all_cut found in
       λ i. (p.0, first i) ∷ others i

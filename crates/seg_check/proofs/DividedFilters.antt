@@ -12,8 +12,8 @@ use Rattle.seg_model.specs.ValidInputs.{filter_fits, filters_fit}
 use Rattle.seg_check.specs.UserOperations.{operation_of}
 use Rattle.seg_check.specs.declared.user_operation.UserOperation.{UserOperation}
 
-none_behind : {X : Type 0} (xs : List X) (n : ℕ) → n ≡ length xs → drop n xs ≡ []
-none_behind xs n is = ap (λ k. drop k xs) is ∙ all_gone xs
+none_after : {X : Type 0} (xs : List X) (n : ℕ) → n ≡ length xs → drop n xs ≡ []
+none_after xs n is = ap (λ k. drop k xs) is ∙ all_gone xs
   where
     all_gone : {X : Type 0} (xs : List X) → drop (length xs) xs ≡ []
     all_gone [] = refl
@@ -50,9 +50,9 @@ module _ (schema : Schema) (analyzer : Analyzer) where
     abbrev pub left_fit : ℕ → ℕ → List (UserOperation Document) → Bool
     left_fit at begin left = filters_fit (drop at filters) (batches_from schema analyzer begin (drop at cuts) (map operation_of left))
 
-    pub one_batch : (n from m cut : ℕ) (filter : Option Filter) (left before behind : List (UserOperation Document)) → n < length cuts → n < length filters → m ≡ n + 1 → cut ≡ get_or cuts n cut → filter ≡ get_or filters n filter → before ≡ take (cut - from) left → behind ≡ drop (cut - from) left
-        → left_fit n from left ≡ (filter_fits filter (batch before behind) && left_fit m cut behind)
-    one_batch n from m cut filter left before behind lt lt' next is_cut is_filter is_before is_behind =
+    pub one_batch : (n from m cut : ℕ) (filter : Option Filter) (left before following : List (UserOperation Document)) → n < length cuts → n < length filters → m ≡ n + 1 → cut ≡ get_or cuts n cut → filter ≡ get_or filters n filter → before ≡ take (cut - from) left → following ≡ drop (cut - from) left
+        → left_fit n from left ≡ (filter_fits filter (batch before following) && left_fit m cut following)
+    one_batch n from m cut filter left before following lt lt' next is_cut is_filter is_before is_behind =
         ap (λ fs. filters_fit fs (batches_from schema analyzer from (drop n cuts) (map operation_of left))) (drop-get_or filters n m filter lt' next is_filter)
         ∙ ap (λ cs. filters_fit (filter ∷ drop m filters) (batches_from schema analyzer from cs (map operation_of left))) (drop-get_or cuts n m cut lt next is_cut)
         ∙ ap (λ os. divided os (drop (cut - from) (map operation_of left))) (take-map operation_of (cut - from) left ∙ ap (map operation_of) (sym is_before))
@@ -64,6 +64,6 @@ module _ (schema : Schema) (analyzer : Analyzer) where
     pub last_batch : (n from : ℕ) (filter : Option Filter) (left : List (UserOperation Document)) → n ≡ length cuts → length filters ≡ length cuts + 1 → filter ≡ get_or filters (length cuts) filter
         → left_fit n from left ≡ filter_fits filter (batch left [])
     last_batch n from filter left is many is_filter =
-        ap (λ fs. filters_fit fs (batches_from schema analyzer from (drop n cuts) (map operation_of left))) (drop-get_or filters n (n + 1) filter (omega arith) refl (is_filter ∙ ap (λ k. get_or filters k filter) (sym is)) ∙ ap (λ fs. filter ∷ fs) (none_behind filters (n + 1) (omega arith)))
-        ∙ ap (λ cs. filters_fit (filter ∷ []) (batches_from schema analyzer from cs (map operation_of left))) (none_behind cuts n is)
+        ap (λ fs. filters_fit fs (batches_from schema analyzer from (drop n cuts) (map operation_of left))) (drop-get_or filters n (n + 1) filter (omega arith) refl (is_filter ∙ ap (λ k. get_or filters k filter) (sym is)) ∙ ap (λ fs. filter ∷ fs) (none_after filters (n + 1) (omega arith)))
+        ∙ ap (λ cs. filters_fit (filter ∷ []) (batches_from schema analyzer from cs (map operation_of left))) (none_after cuts n is)
         ∙ and-true (filter_fits filter (batch left []))

@@ -107,8 +107,8 @@ module _ (schema : Schema) (document : Document) (i field : ℕ) (t : Tree) (at 
   pub none-here : json_refusal t (slice_get schema field) ≡ None
   none-here = none-first (json_refusal t (slice_get schema field)) (leaves_refusal schema (drop (i + 1) document)) both-none
 
-  pub none-behind : leaves_refusal schema (drop (i + 1) document) ≡ None
-  none-behind = none-second (json_refusal t (slice_get schema field)) (leaves_refusal schema (drop (i + 1) document)) both-none
+  pub none-following : leaves_refusal schema (drop (i + 1) document) ≡ None
+  none-following = none-second (json_refusal t (slice_get schema field)) (leaves_refusal schema (drop (i + 1) document)) both-none
 
 -- and so the value of a JSON field that is indexed
 pub keys-plain : (schema : Schema) (field : ℕ) (t : Tree) (entry : FieldEntry) → slice_get schema field ≡ Some entry → is_indexed entry ≡ true → json_refusal t (slice_get schema field) ≡ None → entry.kind ≡ Json → tree_refusal t ≡ None

@@ -6,3 +6,4 @@ pub use Rattle.seg_check.proofs.FieldLeaves.{are-leaves, no_more}
 pub use Rattle.seg_check.proofs.RefusalErrors.{batch_is_refusal, map_each, schema_each, shape_each, start_is_refusal}
 pub use Rattle.seg_check.proofs.RisingPositions.{rises, rises_first}
 pub use Rattle.seg_check.proofs.InputRefusals.{first_is_refusal}
+pub use Rattle.seg_check.proofs.NumberedIds.{number_more}

@@ -17,6 +17,7 @@ mod FieldLeaves
 mod UnrefusedWriters
 mod PathLeaves
 mod ListTails
+mod NumberedIds
 mod RefusalPlaces
 mod RefusalErrors
 mod RisingPositions

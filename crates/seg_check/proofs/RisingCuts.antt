@@ -18,17 +18,17 @@ regrouped true false true d = refl
 regrouped true false false d = refl
 regrouped false b c d = refl
 
-behind_one : (end cut : ℕ) (cuts : List ℕ) → fit_from end cut cuts ≡ (never_falls (cut ∷ cuts) && list_all (λ c. nat_le c end) cuts)
-behind_one end cut [] = refl
-behind_one end cut (next ∷ cuts) =
-    ap (λ b. (nat_le cut next && nat_le next end) && b) (behind_one end next cuts)
+after_one : (end cut : ℕ) (cuts : List ℕ) → fit_from end cut cuts ≡ (never_falls (cut ∷ cuts) && list_all (λ c. nat_le c end) cuts)
+after_one end cut [] = refl
+after_one end cut (next ∷ cuts) =
+    ap (λ b. (nat_le cut next && nat_le next end) && b) (after_one end next cuts)
     ∙ regrouped (nat_le cut next) (nat_le next end) (never_falls (next ∷ cuts)) (list_all (λ c. nat_le c end) cuts)
 
 from_zero : (end : ℕ) (cuts : List ℕ) → fit_from end 0 cuts ≡ (never_falls cuts && list_all (λ c. nat_le c end) cuts)
 from_zero end [] = refl
 from_zero end (cut ∷ cuts) =
     ap (λ b. (b && nat_le cut end) && fit_from end cut cuts) (let e : nat_le 0 cut ≡ true = grind (arith, nat_tests) in e)
-    ∙ ap (λ b. nat_le cut end && b) (behind_one end cut cuts)
+    ∙ ap (λ b. nat_le cut end && b) (after_one end cut cuts)
     ∙ regrouped true (nat_le cut end) (never_falls (cut ∷ cuts)) (list_all (λ c. nat_le c end) cuts)
 
 -- that is what is asked of cuts
@@ -39,13 +39,13 @@ all_fit f operations cuts = from_zero (length operations) cuts ∙ ap (λ end. n
 pub record Fits (end from cut : ℕ) (cuts : List ℕ) : Type 0 where
   pub rises : from ≤ cut
   pub within : cut ≤ end
-  pub behind : fit_from end cut cuts ≡ true
+  pub following : fit_from end cut cuts ≡ true
 
 first_fits : (end from cut : ℕ) (cuts : List ℕ) → fit_from end from (cut ∷ cuts) ≡ true → Fits end from cut cuts
 first_fits end from cut cuts h =
     let both = and_parts (nat_le from cut && nat_le cut end) (fit_from end cut cuts) h in
     let one = and_parts (nat_le from cut) (nat_le cut end) both.0 in
-    record { rises = leb-true from cut one.0; within = leb-true cut end one.1; behind = both.1 }
+    record { rises = leb-true from cut one.0; within = leb-true cut end one.1; following = both.1 }
 
 pub one_cut : (end from : ℕ) (cuts : List ℕ) (n m cut : ℕ) → n < length cuts → m ≡ n + 1 → cut ≡ get_or cuts n cut → fit_from end from (drop n cuts) ≡ true → Fits end from cut (drop m cuts)
 one_cut end from cuts n m cut lt next is h =

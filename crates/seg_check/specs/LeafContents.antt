@@ -30,11 +30,11 @@ leaf_with texts (text s) = text_leaf (slice_index_or texts 0 [])
 leaf_with texts l = coded_leaf (coded_value l)
 
 -- those of the leaves after it
-abbrev pub texts_behind : List (List Token) → Leaf → List (List Token)
-texts_behind texts (text s) = drop 1 texts
-texts_behind texts l = texts
+abbrev pub texts_after : List (List Token) → Leaf → List (List Token)
+texts_after texts (text s) = drop 1 texts
+texts_after texts l = texts
 
 -- what leaves give, each with its joined path
 abbrev pub with_texts : List (List Token) → List (List ℕ × Leaf) → List (List ℕ × LeafContent)
 with_texts texts [] = []
-with_texts texts (p ∷ found) = (p.0, leaf_with texts p.1) ∷ with_texts (texts_behind texts p.1) found
+with_texts texts (p ∷ found) = (p.0, leaf_with texts p.1) ∷ with_texts (texts_after texts p.1) found

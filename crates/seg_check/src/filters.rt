@@ -26,12 +26,12 @@ pub(crate) fn filters_fit(
     let mut from = 0;
     let mut left = operations;
     for (cut, filter) in cuts.iter().zip(filters) {
-        let (batch, behind) = left.split_at(*cut - from);
+        let (batch, following) = left.split_at(*cut - from);
         if !filter_fits(filter, batch) {
             return false;
         }
         from = *cut;
-        left = behind;
+        left = following;
     }
     filter_fits(&filters[cuts.len()], left)
 }

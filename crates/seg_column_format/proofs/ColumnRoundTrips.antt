@@ -14,11 +14,11 @@ use Rattle.seg_column_format.proofs.PartEnds.{apart, flat_split, last_end, lengt
 module _ {S T : Type 0} (width : ℕ) (decoded : List ℕ → Option T) (encoded : S → List ℕ) (seen : S → T) where
   -- ---- values after others
 
-  value_behind : (front back : List ℕ) (k : ℕ) (value : S) → length front ≡ width * k
+  value_after : (front back : List ℕ) (k : ℕ) (value : S) → length front ≡ width * k
       → IsReadAs width decoded encoded seen value
       → value_at width decoded (front ++ (encoded value ++ back)) k ≡ Some (seen value)
   unfolding value_at
-  value_behind front back k value at read =
+  value_after front back k value at read =
       ap decoded (range_of front (encoded value) back (width * k) (width * k + width) at
       (ap (λ (n : ℕ). width * k + n) (sym read.wide))) ∙ read.read
 
@@ -47,35 +47,35 @@ module _ {S T : Type 0} (width : ℕ) (decoded : List ℕ → Option T) (encoded
   head front back k value values at read =
       ap (λ (l : List ℕ). value_at width decoded (front ++ l) k)
       (append_assoc (encoded value) (flat_map encoded values) back)
-      ∙ value_behind front (flat_map encoded values ++ back) k value at read
+      ∙ value_after front (flat_map encoded values ++ back) k value at read
 
   next : (front : List ℕ) (k : ℕ) (value : S) → length front ≡ width * k
       → IsReadAs width decoded encoded seen value → length (front ++ encoded value) ≡ width * (k + 1)
   next front k value at read = omega (arith, length-append front (encoded value), read.wide, at, mul-add width k 1)
 
-  values_behind : (front back : List ℕ) (k : ℕ) (values : List S) → length front ≡ width * k
+  values_after : (front back : List ℕ) (k : ℕ) (values : List S) → length front ≡ width * k
       → AllByRecursion (IsReadAs width decoded encoded seen) values
       → filter_map (value_at width decoded (front ++ (flat_map encoded values ++ back)))
       (range_with_len k (length values)) ≡ map seen values
-  values_behind front back k [] at read = refl
-  values_behind front back k (value ∷ values) at read =
+  values_after front back k [] at read = refl
+  values_after front back k (value ∷ values) at read =
       let rest =
       ap (λ (l : List ℕ). filter_map (value_at width decoded l) (range_with_len (k + 1) (length values)))
       (regrouped front back value values)
-      ∙ values_behind (front ++ encoded value) back (k + 1) values (next front k value at read.0) read.1 in
+      ∙ values_after (front ++ encoded value) back (k + 1) values (next front k value at read.0) read.1 in
       (λ i. cons_option (head front back k value values at read.0 i) (rest i))
 
-  known_behind : (front back : List ℕ) (k : ℕ) (values : List S) → length front ≡ width * k
+  known_after : (front back : List ℕ) (k : ℕ) (values : List S) → length front ≡ width * k
       → AllByRecursion (IsReadAs width decoded encoded seen) values → (i j : ℕ) → i < length values → k + i ≡ j
       → IsSome (value_at width decoded (front ++ (flat_map encoded values ++ back)) j)
-  known_behind front back k [] at read i j lt is = absurd (omega (arith, lt))
-  known_behind front back k (value ∷ values) at read zero j lt is =
+  known_after front back k [] at read i j lt is = absurd (omega (arith, lt))
+  known_after front back k (value ∷ values) at read zero j lt is =
       let e : k ≡ j = omega (arith, is) in
       subst (λ (n : ℕ). IsSome (value_at width decoded (front ++ (flat_map encoded (value ∷ values) ++ back)) n)) e
       (subst (λ (r : Option T). IsSome r) (sym (head front back k value values at read.0)) refl)
-  known_behind front back k (value ∷ values) at read (suc i) j lt is =
+  known_after front back k (value ∷ values) at read (suc i) j lt is =
       subst (λ (l : List ℕ). IsSome (value_at width decoded l j)) (sym (regrouped front back value values))
-      (known_behind (front ++ encoded value) back (k + 1) values (next front k value at read.0) read.1 i j
+      (known_after (front ++ encoded value) back (k + 1) values (next front k value at read.0) read.1 i j
       (omega (arith, lt)) (omega (arith, is)))
 
   -- ---- all rows
@@ -111,9 +111,9 @@ module _ {S T : Type 0} (width : ℕ) (decoded : List ℕ → Option T) (encoded
     values : List ℕ
     values = flat_map (flat_map encoded) rows
 
-    behind_ends : drop (8 * length rows) (number_bytes (ends_from 0 rows) ++ flat_map (flat_map encoded) rows)
+    after_ends : drop (8 * length rows) (number_bytes (ends_from 0 rows) ++ flat_map (flat_map encoded) rows)
         ≡ flat_map (flat_map encoded) rows
-    behind_ends = drop_at (number_bytes (ends_from 0 rows)) (flat_map (flat_map encoded) rows) (8 * length rows)
+    after_ends = drop_at (number_bytes (ends_from 0 rows)) (flat_map (flat_map encoded) rows) (8 * length rows)
         (length-number_bytes rows few [])
 
     known : AreKnown width decoded
@@ -123,9 +123,9 @@ module _ {S T : Type 0} (width : ℕ) (decoded : List ℕ → Option T) (encoded
         let all : List S = flat_map (λ row. row) rows in
         let same : flat_map encoded all ++ [] ≡ drop (8 * length rows)
         (number_bytes (ends_from 0 rows) ++ flat_map (flat_map encoded) rows) =
-        append-nil (flat_map encoded all) ∙ sym (behind_ends ∙ in_a_row rows) in
+        append-nil (flat_map encoded all) ∙ sym (after_ends ∙ in_a_row rows) in
         subst (λ (l : List ℕ). IsSome (value_at width decoded l k)) same
-        (known_behind [] [] 0 all (sym (mul-zero width)) (all_in_a_row rows read) k k
+        (known_after [] [] 0 all (sym (mul-zero width)) (all_in_a_row rows read) k k
         (omega (arith, lt, last_end rows few (flat_map (flat_map encoded) rows), length-in_a_row rows)) (omega arith))
 
     pub is_column : IsColumn width decoded (length rows) (column_bytes encoded rows)
@@ -157,12 +157,12 @@ module _ {S T : Type 0} (width : ℕ) (decoded : List ℕ → Option T) (encoded
         let here : List S = get_or rows i [] in
         let front : List ℕ = flat_map (flat_map encoded) (take i rows) in
         let back : List ℕ = flat_map (flat_map encoded) (drop (i + 1) rows) in
-        let bytes = behind_ends ∙ flat_split (flat_map encoded) rows i [] lt in
+        let bytes = after_ends ∙ flat_split (flat_map encoded) rows i [] lt in
         let start = start_at-parts rows few (flat_map (flat_map encoded) rows) i (omega (arith, lt)) in
         let count = apart rows few (flat_map (flat_map encoded) rows) i lt in
         get_or-map (map seen) rows i [] [] lt
         ∙ sym ((λ j. filter_map (value_at width decoded (bytes j)) (range_with_len (start j) (count j)))
-        ∙ values_behind front back (total (take i rows)) here (length-rows (take i rows)
+        ∙ values_after front back (total (take i rows)) here (length-rows (take i rows)
         (all_taken (AllByRecursion (IsReadAs width decoded encoded seen)) i rows read))
         (all_at (AllByRecursion (IsReadAs width decoded encoded seen)) rows i [] read lt))
 

@@ -67,18 +67,18 @@ module _ {V : Type 0} (row : V → ℕ) where
   later_rows low r (suc m) vs lt = λ j.
       later_of low r vs lt j ∷ later_rows low (r + 1) m vs (omega (arith, lt)) j
 
-  behind_by : (low : ℕ) (v : V) (vs : List V) (b : Bool) → b ≡ here low v → low ≤ row v → Rise row (row v) vs
+  after_by : (low : ℕ) (v : V) (vs : List V) (b : Bool) → b ≡ here low v → low ≤ row v → Rise row (row v) vs
       → (Rise row low vs → Rise row (low + 1) (drop (count low vs) vs))
       → Rise row (low + 1) (drop (cond b (1 + count low vs) 0) (v ∷ vs))
-  behind_by low v vs true e le rise rest =
+  after_by low v vs true e le rise rest =
       subst (λ (n : ℕ). Rise row (low + 1) (drop n (v ∷ vs))) (sym (one-add (count low vs)))
       (rest (same_low low v vs (sym e) rise))
-  behind_by low v vs false e le rise rest =
+  after_by low v vs false e le rise rest =
       let more : low < row v = above low v (sym e) le in (omega (arith, more), rise)
 
-  rise_behind : (low : ℕ) (vs : List V) → Rise row low vs → Rise row (low + 1) (drop (count low vs) vs)
-  rise_behind low [] rise = tt
-  rise_behind low (v ∷ vs) rise = behind_by low v vs (here low v) refl rise.0 rise.1 (rise_behind low vs)
+  rise_after : (low : ℕ) (vs : List V) → Rise row low vs → Rise row (low + 1) (drop (count low vs) vs)
+  rise_after low [] rise = tt
+  rise_after low (v ∷ vs) rise = after_by low v vs (here low v) refl rise.0 rise.1 (rise_after low vs)
 
   -- the first row, and the rows after it
   pub record IsStep (low m : ℕ) (vs : List V) : Type 0 where
@@ -88,7 +88,7 @@ module _ {V : Type 0} (row : V → ℕ) where
   pub step : (low m : ℕ) (vs : List V) → Rise row low vs → IsStep low m vs
   step low m vs rise = record {
     rows = λ j. first_of low vs rise j ∷ later_rows low (low + 1) m vs (omega arith) j;
-    rise = rise_behind low vs rise;
+    rise = rise_after low vs rise;
   }
 
   -- all rows together are all values

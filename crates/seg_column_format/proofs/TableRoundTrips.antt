@@ -9,7 +9,7 @@ use Rattle.std.proofs.lemmas.List.Concat.{flat_map-append}
 use Rattle.seg_common.specs.declared.column_type.ColumnType.TheVariants as types
 use Rattle.seg_common.proofs.Lists.{all_at}
 use Rattle.seg_column_file.specs.ColumnTable.{AreEntries, IsEntry, are_apart, code_in, column_start, end_in, may_follow, next_place, path_in, place_of}
-use Rattle.seg_column_format.specs.FileBytes.{AreColumns, AreInOrder, IsWritten, WrittenColumn, code_of, data_bytes, entries_bytes, entry_bytes, may_stand_behind, table_bytes}
+use Rattle.seg_column_format.specs.FileBytes.{AreColumns, AreInOrder, IsWritten, WrittenColumn, code_of, data_bytes, entries_bytes, entry_bytes, may_stand_after, table_bytes}
 use Rattle.seg_column_format.proofs.EntryRoundTrips as entry
 use Rattle.seg_column_format.proofs.EntryRoundTrips.{code_known, length-entry, type_read}
 use Rattle.seg_column_format.proofs.PartEnds.{flat_split, split}
@@ -18,7 +18,7 @@ abbrev pub nothing : WrittenColumn
 nothing = record { path = []; type = types.I64; bytes = [] }
 
 in_order_at : (columns : List WrittenColumn) → AreInOrder columns → (k : ℕ) → k + 1 < length columns
-    → may_stand_behind (get_or columns k nothing) (get_or columns (suc k) nothing) ≡ true
+    → may_stand_after (get_or columns k nothing) (get_or columns (suc k) nothing) ≡ true
 in_order_at [] order k lt = absurd (omega (arith, lt))
 in_order_at (c ∷ []) order k lt = absurd (omega (arith, lt))
 in_order_at (c ∷ d ∷ columns) order zero lt = order.0
@@ -215,7 +215,7 @@ module _ (columns : List WrittenColumn) (short : length (table_bytes columns) < 
 
     -- the order of two entries that were read
     same_order : (k m : ℕ) → k < length columns → m < length columns
-        → may_follow table (place k) (place m) ≡ may_stand_behind (at k) (at m)
+        → may_follow table (place k) (place m) ≡ may_stand_after (at k) (at m)
     unfolding may_follow
     same_order k m lt next = λ j.
         is_lt (slice_cmp nat_cmp (path_at k lt j) (path_at m next j))
@@ -229,7 +229,7 @@ module _ (columns : List WrittenColumn) (short : length (table_bytes columns) < 
         let next : k + 1 ≤ length columns = omega (arith, lt) in
         (λ j. may_follow table (place_at k le j) (place_at (k + 1) next j))
         ∙ same_order k (k + 1) first lt
-        ∙ ap (λ (n : ℕ). may_stand_behind (at k) (at n)) (add-one k) ∙ in_order_at columns are.order k lt
+        ∙ ap (λ (n : ℕ). may_stand_after (at k) (at n)) (add-one k) ∙ in_order_at columns are.order k lt
 
     pub are_entries : AreEntries table (length columns)
     are_entries = record {

@@ -69,11 +69,11 @@ module _ (terms : List (List ℕ)) (some : length terms < 2 ^ 64) (few : total t
   counted : count_of bytes ≡ length terms
   counted = u64_at-written [] (ends ++ texts) (length terms) 0 some refl
 
-  behind_count : ends_of bytes ≡ ends ++ texts
-  behind_count = drop_at (to_le_bytes w64 (length terms)) (ends ++ texts) 8 refl
+  after_count : ends_of bytes ≡ ends ++ texts
+  after_count = drop_at (to_le_bytes w64 (length terms)) (ends ++ texts) 8 refl
 
-  behind_ends : texts_of bytes ≡ texts
-  behind_ends =
+  after_ends : texts_of bytes ≡ texts
+  after_ends =
       let size = length-number_bytes terms few [] in
       let eight : length (to_le_bytes w64 (length terms)) ≡ 8 = refl in
       ap (λ (n : ℕ). drop (8 + 8 * n) bytes) counted
@@ -91,12 +91,12 @@ module _ (terms : List (List ℕ)) (some : length terms < 2 ^ 64) (few : total t
   term i lt =
       let front : List ℕ = flat_map (λ term. term) (take i terms) in
       let back : List ℕ = flat_map (λ term. term) (drop (i + 1) terms) in
-      let split = behind_ends ∙ flat_split (λ term. term) terms i [] lt in
-      let start = ap (λ (l : List ℕ). start_at l i) behind_count
+      let split = after_ends ∙ flat_split (λ term. term) terms i [] lt in
+      let start = ap (λ (l : List ℕ). start_at l i) after_count
       ∙ start_at-parts terms few texts i (omega (arith, lt)) in
       let count = apart terms few texts i lt in
       let end : start_at (ends_of bytes) (i + 1) ≡ total (take i terms) + length (get_or terms i []) =
-      ap (λ (l : List ℕ). start_at l (i + 1)) behind_count
+      ap (λ (l : List ℕ). start_at l (i + 1)) after_count
       ∙ omega (arith, count, starts_rise terms few texts i lt, start_at-parts terms few texts i (omega (arith, lt))) in
       sym ((λ j. slice_range (split j) (start j) (end j))
       ∙ range_of front (get_or terms i []) back (total (take i terms))
@@ -132,11 +132,11 @@ module _ (terms : List (List ℕ)) (some : length terms < 2 ^ 64) (few : total t
             counted,
           );
       rise = λ i lt.
-          subst (λ (l : List ℕ). start_at l i ≤ start_at l (i + 1)) (sym behind_count)
+          subst (λ (l : List ℕ). start_at l i ≤ start_at l (i + 1)) (sym after_count)
           (starts_rise terms few texts i (omega (arith, lt, counted)));
       fill =
-          (λ j. start_at (behind_count j) (counted j)) ∙ last_end terms few texts
-          ∙ sym (ap length behind_ends ∙ length-texts terms);
+          (λ j. start_at (after_count j) (counted j)) ∙ last_end terms few texts
+          ∙ sym (ap length after_ends ∙ length-texts terms);
     };
     ascend = λ i lt.
         let within : i + 1 < length terms = omega (arith, lt, counted) in

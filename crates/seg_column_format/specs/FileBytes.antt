@@ -55,8 +55,8 @@ file_bytes rows columns =
 -- ---- which columns a file may have
 
 -- whether a column may stand after another: paths ascend in byte order, and of one path the types, not I64 and U64
-abbrev pub may_stand_behind : WrittenColumn → WrittenColumn → Bool
-may_stand_behind c d =
+abbrev pub may_stand_after : WrittenColumn → WrittenColumn → Bool
+may_stand_after c d =
     is_lt (slice_cmp nat_cmp c.path d.path)
     || (is_eq (slice_cmp nat_cmp c.path d.path) && are_apart (code_of c.type) (code_of d.type))
 
@@ -64,7 +64,7 @@ may_stand_behind c d =
 abbrev pub AreInOrder : List WrittenColumn → Type 0
 AreInOrder [] = Unit {0}
 AreInOrder (c ∷ []) = Unit {0}
-AreInOrder (c ∷ d ∷ cs) = (may_stand_behind c d ≡ true) × AreInOrder (d ∷ cs)
+AreInOrder (c ∷ d ∷ cs) = (may_stand_after c d ≡ true) × AreInOrder (d ∷ cs)
 
 -- a column of this many rows
 pub record IsWritten (rows : ℕ) (c : WrittenColumn) : Type 0 where

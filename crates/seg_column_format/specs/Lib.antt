@@ -1,4 +1,5 @@
 pub mod ColumnBytes
+pub mod CompositeKeys
 pub mod FastTokenizers
 pub mod FileBytes
 pub mod ModelColumns
@@ -6,5 +7,5 @@ pub mod NumberedTerms
 pub mod PathStarts
 pub mod RowNumbers
 pub mod SchemaColumns
-pub mod TermHashes
+pub mod TermKeys
 pub mod ValuesByRow

@@ -53,10 +53,10 @@ is_fast_json e = e.fast && is_json e.kind
 abbrev pub is_json_path : Schema → List ℕ → Bool
 is_json_path schema path = list_any (λ e. is_fast_json e && is_path_of path e) schema
 
--- whether a row has a value
-abbrev pub is_row_filled : {X : Type 0} → List X → Bool
-is_row_filled [] = false
-is_row_filled (x ∷ xs) = true
+-- whether a row, or a column that is recorded, has a value
+abbrev pub has_values : {X : Type 0} → List X → Bool
+has_values [] = false
+has_values (x ∷ xs) = true
 
 -- whether a column has a value
 abbrev pub has_value : NamedColumn → Bool

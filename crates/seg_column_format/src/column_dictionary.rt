@@ -5,7 +5,7 @@ ghost use Rattle.seg_column_format.specs.ColumnBytes.{dictionary_bytes, ends_fro
 ghost use Rattle.seg_column_format.specs.NumberedTerms.{terms_at};
 
 use crate::room::sum;
-use crate::term::Term;
+use crate::term_key::TermKey;
 use crate::term_order::bytes_at;
 use crate::term_table::TermTable;
 use seg_common::put_u64;
@@ -31,7 +31,7 @@ pub fn put_dictionary(
 }
 
 /// How many bytes a dictionary has.
-fn dictionary_room(terms: &[Term], numbers: &[usize]) -> Result<usize, AllocError> {
+fn dictionary_room(terms: &[TermKey], numbers: &[usize]) -> Result<usize, AllocError> {
     let mut room: usize = 8;
     for number in numbers {
         let entry = sum(bytes_at(terms, *number).len(), 8)?;
@@ -41,7 +41,7 @@ fn dictionary_room(terms: &[Term], numbers: &[usize]) -> Result<usize, AllocErro
 }
 
 /// Adds where each term ends.
-fn put_ends(out: &mut Vec<u8>, terms: &[Term], numbers: &[usize]) -> Result<(), AllocError>
+fn put_ends(out: &mut Vec<u8>, terms: &[TermKey], numbers: &[usize]) -> Result<(), AllocError>
     ensures ok { OnOk result (out.new.items
         ≡ out.old.items ++ number_bytes (ends_from 0 (terms_at terms.now numbers.now))) }
     ensures few { OnOk result (total (terms_at terms.now numbers.now) < 2 ^ 64) }
@@ -57,7 +57,7 @@ fn put_ends(out: &mut Vec<u8>, terms: &[Term], numbers: &[usize]) -> Result<(), 
     Ok(())
 }
 
-fn put_texts(out: &mut Vec<u8>, terms: &[Term], numbers: &[usize]) -> Result<(), AllocError>
+fn put_texts(out: &mut Vec<u8>, terms: &[TermKey], numbers: &[usize]) -> Result<(), AllocError>
     ensures { OnOk result (out.new.items
         ≡ out.old.items ++ flat_map (λ term. term) (terms_at terms.now numbers.now)) }
 {

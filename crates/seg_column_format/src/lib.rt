@@ -1,5 +1,6 @@
-//! The bytes of files of columns as they are written, piece by piece, with the laws that they are read back; and which
-//! columns the file of a segment has to have by its schema, and which it may have.
+//! The bytes of files of columns as they are written, piece by piece, with the laws that they are read back; which
+//! columns the file of a segment has to have by its schema, and which it may have; and the keys of tables in memory,
+//! those of terms (`TermKey`) and those of two parts (`CompositeKey`).
 //!
 //! Its model: `column_bytes` gives the bytes of a column from its rows, `file_bytes` those of a file from its columns,
 //! and `columns_in` what the columns are by the model; `HoldColumns` says that bytes are a file of so many documents
@@ -25,9 +26,12 @@ mod laws;
 mod column_table;
 mod room;
 
+// The keys of tables: terms, and bytes with a small value at their head.
+mod composite_key;
+mod term_key;
+
 // The distinct terms of a column, by their numbers and in byte order.
 mod column_dictionary;
-mod term;
 mod term_order;
 mod term_table;
 
@@ -54,6 +58,7 @@ mod values;
 pub use column_bytes::{put_numbers, put_ordered_terms};
 pub use column_dictionary::put_dictionary;
 pub use column_table::{put_entry, put_table, type_code};
+pub use composite_key::{CompositeKey, CompositeKeyParts};
 pub use declared_columns::declared_type;
 pub use fast_tokenizers::{column_tokenizer, lack_tokenizers};
 pub use laws::{bytes_columns_read_back, files_read_back, str_columns_read_back};
@@ -61,5 +66,6 @@ pub use opened_columns::open_columns;
 pub use room::sum;
 pub use row_number::RowNumber;
 pub use same_ends::put_same_ends;
+pub use term_key::{TermBytes, TermKey};
 pub use term_order::TermOrder;
 pub use term_table::TermTable;

@@ -7,7 +7,7 @@ ghost use Rattle.std.specs.Cmp.Lexicographic.{slice_cmp};
 ghost use Rattle.std.specs.Str.{bytes_eq};
 ghost use Rattle.seg_column_format.specs.NumberedTerms.{AreOrdinals, AscendBy, IsOrder};
 
-use crate::term::Term;
+use crate::term_key::TermKey;
 use std::alloc::{AllocError, Global};
 use std::cmp::Ordering;
 
@@ -18,7 +18,7 @@ pub struct TermOrder {
     pub ordinals: Vec<u64>,
 }
 
-pub(crate) fn order_terms(alloc: Global, terms: &[Term]) -> Result<TermOrder, AllocError>
+pub(crate) fn order_terms(alloc: Global, terms: &[TermKey]) -> Result<TermOrder, AllocError>
     requires { IsDistinct bytes_eq terms.now }
     ensures { IfOk result (λ order. IsOrder terms.now order.numbers.items order.ordinals.items) }
 {
@@ -28,7 +28,7 @@ pub(crate) fn order_terms(alloc: Global, terms: &[Term]) -> Result<TermOrder, Al
 }
 
 /// The numbers of all terms, in the byte order of these.
-fn sorted_numbers(alloc: Global, terms: &[Term]) -> Result<Vec<usize>, AllocError>
+fn sorted_numbers(alloc: Global, terms: &[TermKey]) -> Result<Vec<usize>, AllocError>
     requires { IsDistinct bytes_eq terms.now }
     ensures { IfOk result (λ numbers. AscendBy terms.now numbers.items) }
 {
@@ -48,14 +48,14 @@ fn all_numbers(alloc: Global, count: usize) -> Result<Vec<usize>, AllocError>
 }
 
 /// How the terms with two numbers compare; a number without a term is as the empty one.
-fn compare(terms: &[Term], first: usize, second: usize) -> Ordering
+fn compare(terms: &[TermKey], first: usize, second: usize) -> Ordering
     ensures { result ≡ slice_cmp nat_cmp (get_or terms.now first []) (get_or terms.now second []) }
 {
     bytes_at(terms, first).cmp(&bytes_at(terms, second))
 }
 
 /// The term with a number; a number without a term is as that of the empty one.
-pub(crate) fn bytes_at(terms: &[Term], number: usize) -> &[u8]
+pub(crate) fn bytes_at(terms: &[TermKey], number: usize) -> &[u8]
     ensures { result.now ≡ get_or terms.now number [] }
 {
     match terms.get(number) {

@@ -4,7 +4,7 @@ ghost use Rattle.std.specs.List.{IsDistinct, list_any};
 ghost use Rattle.std.specs.Str.{bytes_eq};
 ghost use Rattle.seg_column_format.specs.NumberedTerms.{IsOrder, term_number, with_term};
 
-use crate::term::{Term, TermBytes};
+use crate::term_key::{TermBytes, TermKey};
 use crate::term_order::{TermOrder, bytes_at, order_terms};
 use indexmap::IndexSet;
 use std::alloc::{AllocError, Global};
@@ -13,7 +13,7 @@ use std::marker::Model;
 /// Distinct terms, each with a number: its place in the order in which they came. It is seen as their list.
 #[derive(Drop)]
 pub struct TermTable {
-    terms: IndexSet<Term>,
+    terms: IndexSet<TermKey>,
 }
 
 impl Model for TermTable {
@@ -53,7 +53,7 @@ impl TermTable {
         ensures err { OnErr result (self.new ≡ self.old) }
     {
         let number = self.terms.len() as u64;
-        let copy = Term::copy_of(alloc, term)?;
+        let copy = TermKey::copy_of(alloc, term)?;
         let Ok(_) = self.terms.insert(copy) else {
             return Err(AllocError);
         };
@@ -85,7 +85,7 @@ impl TermTable {
     }
 
     /// The terms by their numbers.
-    pub(crate) fn as_slice(&self) -> &[Term]
+    pub(crate) fn as_slice(&self) -> &[TermKey]
         ensures { result.now ≡ self.now }
     {
         self.terms.as_slice()

@@ -39,7 +39,7 @@ pub(crate) fn has_value(column: &DynamicColumn) -> bool
 }
 
 fn is_used<T: ColumnValue>(column: &Column<T>) -> bool
-    ensures { result ≡ list_any spec.is_row_filled column.now }
+    ensures { result ≡ list_any spec.has_values column.now }
 {
     for doc in 0..column.num_docs() {
         if column.first(doc).is_some() {

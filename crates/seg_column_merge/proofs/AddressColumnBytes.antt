@@ -5,9 +5,9 @@ use Rattle.std.specs.List.{AllByRecursion}
 use Rattle.std.specs.Net.Addr.{ipv6_octets}
 use Rattle.std.specs.declared.net.ipv6_addr.Ipv6Addr.{Ipv6Addr}
 use Rattle.std.proofs.lemmas.List.{length-map, length-replicate}
+use Rattle.seg_column_writer.proofs.Exports.{same_address}
 use Rattle.seg_common.specs.declared.column_type.ColumnType.TheVariants as types
 use Rattle.seg_common.proofs.Lists.{get_or-map_map}
-use Rattle.seg_values.proofs.Exports.{segments_of-octets_of}
 use Rattle.seg_model.specs.Columns.{ColumnValue, ip_value, type_place}
 use Rattle.seg_columns.specs.Addresses.{address, address_of}
 use Rattle.seg_columns.specs.Columns.{IsColumn, rows_of}
@@ -40,9 +40,6 @@ use Rattle.seg_column_merge.proofs.ValueTypes.{kept_all}
 use Rattle.seg_column_merge.proofs.TermColumns.{rows_of_file}
 
 -- ---- one address
-
-same_address : (a : Ipv6Addr) → address_of (ipv6_octets a) ≡ a
-same_address a = λ j. record { segments = segments_of-octets_of a.segments j }
 
 -- the value of bytes
 abbrev value_of : List ℕ → ColumnValue

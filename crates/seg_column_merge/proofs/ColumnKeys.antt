@@ -17,14 +17,14 @@ use Rattle.seg_column_merge_parts.specs.Tables.{kind_of}
 
 -- ---- types, where paths compare in some way
 
-abbrev among : Ordering → ColumnType → ColumnType → Bool
+abbrev pub among : Ordering → ColumnType → ColumnType → Bool
 among o I64 u =
     is_eq (ordering_then o (nat_cmp (type_place u) 0)) || (is_eq (ordering_then o (nat_cmp (type_place u) 1)) || false)
 among o U64 u =
     is_eq (ordering_then o (nat_cmp (type_place u) 0)) || (is_eq (ordering_then o (nat_cmp (type_place u) 1)) || false)
 among o t u = is_eq (ordering_then o (nat_cmp (type_place u) (type_place t))) || false
 
-among_is : (path other : List ℕ) (t u : ColumnType)
+pub among_is : (path other : List ℕ) (t u : ColumnType)
     → is_among column_cmp (joined_keys (record { path = other; type = t })) (record { path = path; type = u })
     ≡ among (slice_cmp nat_cmp path other) t u
 among_is path other I64 u = refl

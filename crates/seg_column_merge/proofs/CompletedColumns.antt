@@ -1,41 +1,26 @@
 -- The merged columns of the model, from what is at each key.
 use Rattle.std.proofs.Common.{◌≡◌, ℕ, zero, suc, Bool, true, false, ◌||◌, List, [], ◌∷◌, map, get_or, Option, Some, None, refl, sym, ap, ◌∙◌, arith}
-use Rattle.std.specs.Prelude.{◌&&◌, String, if◌then◌else◌, nat_eq, not}
+use Rattle.std.specs.Prelude.{◌&&◌, String, if◌then◌else◌, not}
 use Rattle.std.specs.declared.alloc.Global.{Global}
-use Rattle.std.specs.FinMap.{IsAntisymmetric, get}
+use Rattle.std.specs.FinMap.{get}
 use Rattle.std.specs.List.{flat_map, list_all, list_any}
-use Rattle.std.specs.Ordering.{eq_by_cmp, is_eq}
-use Rattle.std.specs.Str.{bytes_eq}
-use Rattle.std.specs.Cmp.Lexicographic.{bytes_decides}
-use Rattle.std.proofs.lemmas.Bool.{and_parts, or_left, or_parts, or_right, true≢false}
-use Rattle.std.proofs.lemmas.Bool.Decides.{nat_tests}
+use Rattle.std.specs.Ordering.{eq_by_cmp}
+use Rattle.std.proofs.lemmas.Bool.{or_left, or_parts, or_right, true≢false}
 use Rattle.std.proofs.lemmas.List.Folds.{list_any-append}
 use Rattle.seg_common.proofs.TabulatedMaps.{same_key, table_from_gets}
 use Rattle.seg_common.specs.TabulatedMaps.{is_among, tabulated}
 use Rattle.seg_common.specs.declared.column_type.ColumnType.{ColumnType}
 use Rattle.seg_common.specs.declared.column_type.ColumnType.TheVariants as types
 use Rattle.seg_common.proofs.Lists.{filter-none, list_any-none}
-use Rattle.seg_model.proofs.Exports.{column_cmp_total}
-use Rattle.seg_model.specs.Columns.{ColumnKey, ColumnValue, Columns, column_at, column_cmp, free_number_type, if_there, is_declared, is_filled, is_mixed, is_not_negative, is_number, is_type, number_type, type_place, without_values}
+use Rattle.seg_model.proofs.Exports.{column_cmp_total, columns_apart}
+use Rattle.seg_model.specs.Columns.{ColumnKey, ColumnValue, Columns, column_at, column_cmp, free_number_type, if_there, is_declared, is_filled, is_mixed, is_not_negative, is_number, is_type, number_type, without_values}
 use Rattle.seg_model.specs.Join.{joined_keys}
 use Rattle.seg_column_file.specs.ColumnFiles.{ColumnFile, NamedColumn}
 use Rattle.seg_column_format.specs.ModelColumns.{column_key, column_rows}
 use Rattle.seg_column_merge.specs.MergedColumns.{columns_of_file, merged_columns, merged_keys, required_key, rows_at, values_in_row}
 use Rattle.seg_column_file.specs.RowOrders.{Place}
-use Rattle.seg_column_format.proofs.Exports.{same_type}
 use Rattle.seg_column_writer.proofs.Exports.{among_passes}
 use Rattle.seg_column_merge.proofs.ModelColumns.{all_fit, empty_rows, found, mixed}
-use Rattle.seg_column_merge.proofs.ColumnKeys.{key_is}
-
--- ---- keys are told apart
-
-pub keys_apart : IsAntisymmetric column_cmp
-keys_apart q k e =
-    let both : (bytes_eq q.path k.path && nat_eq (type_place q.type) (type_place k.type)) ≡ true =
-    sym (key_is k q) ∙ ap is_eq e in
-    let parts = and_parts (bytes_eq q.path k.path) (nat_eq (type_place q.type) (type_place k.type)) both in
-    let places : type_place q.type ≡ type_place k.type = grind (arith, nat_tests, parts.1) in
-    λ j. record { path = (bytes_decides q.path k.path).0 parts.0 j; type = same_type q.type k.type places j }
 
 -- ---- lists
 
@@ -55,7 +40,7 @@ here_or_later : (test : ColumnKey → Bool) (q k : ColumnKey) (ks : List ColumnK
     → (is_among column_cmp ks q ≡ true → list_any test ks ≡ true) → (b : Bool) → eq_by_cmp column_cmp q k ≡ b
     → (b || is_among column_cmp ks q) ≡ true → (test k || list_any test ks) ≡ true
 here_or_later test q k ks passes later true e is =
-    or_left (test k) (list_any test ks) (ap test (sym (same_key keys_apart q k e)) ∙ passes)
+    or_left (test k) (list_any test ks) (ap test (sym (same_key columns_apart q k e)) ∙ passes)
 here_or_later test q k ks passes later false e is = or_right (test k) (list_any test ks) (later is)
 
 module _ (required : List (String Global × ColumnType)) (files : List ColumnFile) (places : List Place) where
@@ -165,7 +150,7 @@ module _ (required : List (String Global × ColumnType)) (files : List ColumnFil
       ap (λ (b : Bool). if b then None
       else Some (tabulated {R = column_cmp} (λ k. column_at declared_keys k (rows k)) keys))
       (list_any-none (λ k. is_mixed declared_keys k (rows k)) unmixed keys)
-      ∙ ap Some (sym (table_from_gets column_cmp_total keys_apart (λ k. column_at declared_keys k (rows k)) keys
+      ∙ ap Some (sym (table_from_gets column_cmp_total columns_apart (λ k. column_at declared_keys k (rows k)) keys
       (record { outside = not_found }) m gets))
 
   -- they aren't defined where some key is

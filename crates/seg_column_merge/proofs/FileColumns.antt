@@ -230,8 +230,8 @@ module _ (path : List ℕ) (kind : ℕ) (counts : List ℕ) where
   with_file : (file rows : ℕ) → file < length counts → rows ≡ get_or counts file 0 → (own rest : List Row)
       → AtMostOne path kind file rows own → (first : ℕ) → first ≤ file
       → ((next : ℕ) → next ≤ file + 1 → AreIn counts next rest) → AreIn counts first (own ++ rest)
-  with_file file rows lt is [] rest own first le behind = behind first (omega (arith, le))
-  with_file file rows lt is (r ∷ []) rest own first le behind = (
+  with_file file rows lt is [] rest own first le later = later first (omega (arith, le))
+  with_file file rows lt is (r ∷ []) rest own first le later = (
     file + 1,
     subst (λ (o : Option PlacedColumn). Fits counts first o (file + 1)) (sym own.1) (
       omega (arith, own.2, le),
@@ -239,9 +239,9 @@ module _ (path : List ℕ) (kind : ℕ) (counts : List ℕ) where
       own.3 ∙ is ∙ ap (λ (n : ℕ). get_or counts n 0) (sym own.2),
       omega (arith, own.2),
     ),
-    behind (file + 1) (omega arith),
+    later (file + 1) (omega arith),
   )
-  with_file file rows lt is (r ∷ s ∷ rs) rest own first le behind = absurd own
+  with_file file rows lt is (r ∷ s ∷ rs) rest own first le later = absurd own
 
   in_files : (fs : List ColumnFile) → AllByRecursion IsOfFile fs → (first file : ℕ) → first ≤ file
       → ((k : ℕ) → k < length fs → get_or (map (λ f. f.rows) fs) k 0 ≡ get_or counts (file + k) 0)

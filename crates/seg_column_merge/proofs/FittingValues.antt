@@ -1,12 +1,13 @@
 -- The values of a column are of its type, and so are those of the rows that are kept.
-use Rattle.std.proofs.Common.{◌≡◌, ℕ, zero, suc, ◌+◌, ◌-◌, ◌*◌, ◌^◌, ◌<◌, ◌≤◌, Bool, true, false, List, [], ◌∷◌, length, take, drop, map, get_or, Option, Some, None, sym, subst, ◌∙◌, arith, mul-add}
+use Rattle.std.proofs.Common.{◌≡◌, ℕ, zero, suc, ◌+◌, ◌-◌, ◌*◌, ◌^◌, ◌<◌, ◌≤◌, Bool, true, false, List, [], ◌∷◌, length, take, drop, map, Option, Some, None, subst, ◌∙◌, arith, mul-add}
 use Rattle.std.specs.Prelude.{All, FitsSigned, IfSome, if◌then◌else◌, slice_range}
 use Rattle.std.specs.Int.{w64, from_le_bytes}
 use Rattle.std.specs.List.{AllByRecursion, cons_option, filter_map, range_with_len}
 use Rattle.std.specs.Net.Addr.{octets_of, segments_of}
 use Rattle.std.proofs.Math.Nat.{mul-le-mul_left}
-use Rattle.std.proofs.lemmas.List.{get_or-drop, length-drop, length-take-le}
+use Rattle.std.proofs.lemmas.List.{length-drop, length-take-le}
 use Rattle.std.proofs.lemmas.List.Elements.{All-append, All-from_recursion, All-head, All-nil, All-tail}
+use Rattle.seg_column_merge_parts.proofs.Exports.{AreOctets, octets_left, octets_taken}
 use Rattle.seg_common.specs.LittleEndian.{u64_at}
 use Rattle.seg_common.specs.MappableLaws.{lowered-fits}
 use Rattle.seg_columns.specs.Addresses.{address}
@@ -16,18 +17,6 @@ use Rattle.seg_columns.specs.ValueImages.{signed, unsigned}
 use Rattle.seg_columns.proofs.DocumentValues.{within}
 use Rattle.seg_column_merge_parts.specs.KeptColumns.{IsWhole}
 use Rattle.seg_column_file.specs.KeptRows.{kept_values}
-
-abbrev pub AreOctets : List ℕ → Type 0
-AreOctets bytes = (i : ℕ) → get_or bytes i 0 < 256
-
-octets_taken : (n : ℕ) (bytes : List ℕ) → AreOctets bytes → AreOctets (take n bytes)
-octets_taken zero bytes small i = omega arith
-octets_taken (suc n) [] small i = omega arith
-octets_taken (suc n) (b ∷ bytes) small zero = small 0
-octets_taken (suc n) (b ∷ bytes) small (suc i) = octets_taken n bytes (λ k. small (suc k)) i
-
-octets_left : (n : ℕ) (bytes : List ℕ) → AreOctets bytes → AreOctets (drop n bytes)
-octets_left n bytes small i = subst (λ (b : ℕ). b < 256) (sym (get_or-drop n bytes i 0)) (small (n + i))
 
 -- what the bytes of a value tell of it
 abbrev pub Tells : {T : Type 0} → ℕ → (List ℕ → Option T) → (T → Type 0) → Type 0

@@ -19,10 +19,9 @@ use Rattle.seg_column_merge.specs.MergedFiles.{AddsEntry, IsColumnGroup, IsFileO
 use Rattle.seg_column_merge_parts.specs.Tables.{column_in, kind_of, row_of}
 use Rattle.seg_column_merge.specs.declared.merge.Merge.{Merge}
 use Rattle.seg_column_merge.specs.declared.merged_file.MergedFile.{MergedFile}
-use Rattle.seg_column_merge_parts.specs.declared.tables.FileColumn.{FileColumn}
 use Rattle.seg_column_merge_parts.specs.declared.tables.TableRow.{TableRow}
 use Rattle.seg_column_merge.proofs.AgreeingTypes.{type_of_kind}
-use Rattle.seg_column_merge.proofs.MergedTypes.{same_kind_number, all_kinds as kinds_of}
+use Rattle.seg_column_merge.proofs.MergedTypes.{all_numbers, all_kinds as kinds_of}
 
 -- ---- rows of one type
 
@@ -33,19 +32,6 @@ all_typed : (t : ColumnType) (rows : List TableRow) → AllByRecursion (λ r. Ha
     → AllByRecursion (λ r. r.column_type ≡ t) rows → AllByRecursion (λ r. HasType t r.column) rows
 all_typed t [] typed same = tt
 all_typed t (r ∷ rs) typed same = (typed_one t r typed.0 same.0, all_typed t rs typed.1 same.1)
-
-numbers_one : (o : Option FileColumn) (t : ColumnType) → HasType t o → is_number t ≡ true → HasNumbers o
-numbers_one None t is n = tt
-numbers_one (Some c) t is n = ap is_number is ∙ n
-
-all_numbers : (t : ColumnType) → is_number t ≡ true → (rows : List TableRow)
-    → AllByRecursion (λ r. HasType r.column_type r.column) rows
-    → AllByRecursion (λ r. kind_of r.column_type ≡ kind_of t) rows → AllByRecursion (λ r. HasNumbers r.column) rows
-all_numbers t n [] typed kinds = tt
-all_numbers t n (r ∷ rs) typed kinds = (
-  numbers_one r.column r.column_type typed.0 (same_kind_number r.column_type t kinds.0 ∙ n),
-  all_numbers t n rs typed.1 kinds.1,
-)
 
 one_type : (t : ColumnType) → is_number t ≡ false → (rows : List TableRow)
     → AllByRecursion (λ r. kind_of r.column_type ≡ kind_of t) rows → AllByRecursion (λ r. r.column_type ≡ t) rows

@@ -19,10 +19,9 @@ use Rattle.seg_model.proofs.Exports.{column_cmp_total, twice_nothing}
 use Rattle.seg_model.specs.Columns.{ColumnKey, ColumnValue, Columns, column_cmp, declared_columns, is_filled, is_number}
 use Rattle.seg_model.specs.Fields.{Schema}
 use Rattle.seg_model.specs.Join.{Part, joined_columns, joined_keys, live_of, part_column, part_rows, side_by_side}
-use Rattle.seg_column_format.proofs.Exports.{Rows, entry, is_there, same_column, ties}
+use Rattle.seg_column_format.proofs.Exports.{Rows, entry, is_there, same_column, ties, signed_key, unsigned_key}
 use Rattle.seg_column_merge.specs.LiveColumns.{HasColumnsOf, HaveColumnsOf, live_rows}
 use Rattle.seg_column_merge.proofs.LiveRows.{live_rows_are}
-use Rattle.seg_column_merge.proofs.RowValues.{signed, unsigned}
 
 -- ---- keys among keys
 
@@ -112,25 +111,25 @@ no_rows : (p : Part) (q : ColumnKey) → is_among column_cmp (flat_map joined_ke
     → list_any is_filled (part_rows q p) ≡ false
 no_rows p q none = by (is_number q.type) refl
   where
-    number : (t : ColumnType) → q.type ≡ t → is_number t ≡ true → is_among column_cmp (signed q.path ∷ unsigned q.path ∷ []) q ≡ true
-    number I64 e h = ap (λ (t : ColumnType). is_among column_cmp (signed q.path ∷ unsigned q.path ∷ []) (record { path = q.path; type = t })) e
-        ∙ ap (λ b. b || (eq_by_cmp column_cmp (signed q.path) (unsigned q.path) || false)) (ap is_eq (ties column_cmp_total (signed q.path)))
-    number U64 e h = ap (λ (t : ColumnType). is_among column_cmp (signed q.path ∷ unsigned q.path ∷ []) (record { path = q.path; type = t })) e
-        ∙ or_right (eq_by_cmp column_cmp (unsigned q.path) (signed q.path)) _ (itself (unsigned q.path))
+    number : (t : ColumnType) → q.type ≡ t → is_number t ≡ true → is_among column_cmp (signed_key q.path ∷ unsigned_key q.path ∷ []) q ≡ true
+    number I64 e h = ap (λ (t : ColumnType). is_among column_cmp (signed_key q.path ∷ unsigned_key q.path ∷ []) (record { path = q.path; type = t })) e
+        ∙ ap (λ b. b || (eq_by_cmp column_cmp (signed_key q.path) (unsigned_key q.path) || false)) (ap is_eq (ties column_cmp_total (signed_key q.path)))
+    number U64 e h = ap (λ (t : ColumnType). is_among column_cmp (signed_key q.path ∷ unsigned_key q.path ∷ []) (record { path = q.path; type = t })) e
+        ∙ or_right (eq_by_cmp column_cmp (unsigned_key q.path) (signed_key q.path)) _ (itself (unsigned_key q.path))
     number Bytes e h = absurd (false≢true h)
     number Str e h = absurd (false≢true h)
     number Boolean e h = absurd (false≢true h)
     number IpAddr e h = absurd (false≢true h)
     number DateTime e h = absurd (false≢true h)
 
-    by : (b : Bool) → is_number q.type ≡ b → list_any is_filled (if b then side_by_side (part_column (signed q.path) p) (part_column (unsigned q.path) p) else part_column q p) ≡ false
+    by : (b : Bool) → is_number q.type ≡ b → list_any is_filled (if b then side_by_side (part_column (signed_key q.path) p) (part_column (unsigned_key q.path) p) else part_column q p) ≡ false
     by true on =
         let gives = number q.type refl on in
-        (λ j. list_any is_filled (side_by_side (no_column p (signed q.path) q gives none j) (no_column p (unsigned q.path) q gives none j)))
+        (λ j. list_any is_filled (side_by_side (no_column p (signed_key q.path) q gives none j) (no_column p (unsigned_key q.path) q gives none j)))
         ∙ twice_nothing p.contents.documents
     by false off =
         let gives : is_among column_cmp (joined_keys q) q ≡ true =
-        ap (λ b. is_among column_cmp (if b then signed q.path ∷ unsigned q.path ∷ [] else q ∷ []) q) off ∙ itself q in
+        ap (λ b. is_among column_cmp (if b then signed_key q.path ∷ unsigned_key q.path ∷ [] else q ∷ []) q) off ∙ itself q in
         ap (list_any is_filled) (no_column p q q gives none) ∙ unfilled p.contents.documents
 
 abbrev part_keys : Part → List ColumnKey

@@ -84,15 +84,15 @@ module _ {X : Type 0} (lt : X → X → Bool) (o : IsStrictWeakOrder lt) where
         ap (ties lt x) (get_or-drop start (take stop table) k d ∙ get_or-take stop table (start + k) d below)
         ∙ same (start + k) d (omega arith) below
 
-    behind : (k : ℕ) (d : X) → stop ≤ k → k < length table → lt x (get_or table k d) ≡ true
-    behind k d le below =
+    later : (k : ℕ) (d : X) → stop ≤ k → k < length table → lt x (get_or table k d) ≡ true
+    later k d le below =
         less_then lt o x (get_or table stop d) (get_or table k d) (other d (omega (arith, le, below)))
         (sorted_far lt o table up stop k d le below)
 
     in_back : All (λ b. lt x b ≡ true) (drop stop table)
     in_back k d lt' =
         ap (lt x) (get_or-drop stop table k d)
-        ∙ behind (stop + k) d (omega arith) (omega (arith, lt', length-drop stop table))
+        ∙ later (stop + k) d (omega arith) (omega (arith, lt', length-drop stop table))
 
     pub group_ties : filter (ties lt x) table ≡ group
     group_ties =
@@ -224,6 +224,6 @@ module _ (old table : List TableRow) (sorted : IsSortedByKey table_key table_key
       ∙ stable x)
       ∙ with_key x old
 
-  pub cut_behind : (k : ℕ) (d : TableRow) → k < stop → stop < length table
+  pub cut_after : (k : ℕ) (d : TableRow) → k < stop → stop < length table
       → row_lt (get_or table k d) (get_or table stop d) ≡ true
-  cut_behind = next_cut row_lt row_order table sorted start stop x group.some group.within at_first same other cut
+  cut_after = next_cut row_lt row_order table sorted start stop x group.some group.within at_first same other cut

@@ -27,10 +27,9 @@ use Rattle.seg_values.proofs.Exports.{unnamed}
 use Rattle.seg_values.specs.FieldNames.{field_named}
 use Rattle.seg_values.specs.SchemaRules.{is_schema}
 use Rattle.seg_values.specs.declared.schema.FieldEntry.{FieldEntry}
-use Rattle.seg_column_format.proofs.Exports.{Passing, alone, declared_is, entry, is_there, passing, same_type, ties}
+use Rattle.seg_column_format.proofs.Exports.{Passing, alone, declared_is, entry, is_there, passing, same_type, ties, signed_key, unsigned_key}
 use Rattle.seg_column_format.specs.SchemaColumns.{SuitColumns, declares, is_type}
 use Rattle.seg_column_merge.specs.LiveColumns.{HasColumnsOf, HaveColumnsOf, live_rows}
-use Rattle.seg_column_merge.proofs.RowValues.{signed, unsigned}
 
 -- ---- declared names
 
@@ -68,8 +67,8 @@ module _ (schema : Schema) (valid : is_schema schema ≡ true) where
 
   -- ---- columns of one file
 
-  not_both : (path : List ℕ) → is_declared declared (signed path) ≡ true → is_declared declared (unsigned path) ≡ true → ⊥
-  not_both path h g = apart (same_declared (signed path) (unsigned path) h g refl)
+  not_both : (path : List ℕ) → is_declared declared (signed_key path) ≡ true → is_declared declared (unsigned_key path) ≡ true → ⊥
+  not_both path h g = apart (same_declared (signed_key path) (unsigned_key path) h g refl)
     where
       apart : U64 ≡ I64 → ⊥
       apart e = cc e

@@ -20,9 +20,9 @@ use Rattle.seg_model.proofs.Exports.{column_cmp_total, kept-map}
 use Rattle.seg_model.specs.Columns.{ColumnKey, ColumnValue, Columns, column_cmp, is_number}
 use Rattle.seg_model.specs.Fields.{Schema}
 use Rattle.seg_model.specs.Join.{Part, live_of, part_column, part_rows, side_by_side}
-use Rattle.seg_column_format.proofs.Exports.{HasShape, Rows, entry, have_shape, keys_ascend, kind_cmp, rows_at as rows_of_column}
+use Rattle.seg_column_format.proofs.Exports.{HasShape, Rows, entry, have_shape, keys_ascend, kind_cmp, rows_at as rows_of_column, signed_key, unsigned_key}
 use Rattle.seg_column_merge.specs.LiveColumns.{HasColumnsOf, HaveColumnsOf, live_rows}
-use Rattle.seg_column_merge.proofs.RowValues.{found_at, number_values, numbers_at, plain_values, signed, unsigned, unsigned_values}
+use Rattle.seg_column_merge.proofs.RowValues.{found_at, number_values, numbers_at, plain_values, unsigned_values}
 
 -- ---- one file
 
@@ -52,13 +52,13 @@ module _ (schema : Schema) (file : ColumnFile) (p : Part) (has : HasColumnsOf sc
   pub row_is : (q : ColumnKey) (row : ℕ) → values_in_row q columns row ≡ get_or (part_rows q p) row []
   row_is q row = by (is_number q.type) refl
     where
-      numbers : values_in_row (signed q.path) columns row
-          ≡ get_or (side_by_side (part_column (signed q.path) p) (part_column (unsigned q.path) p)) row []
+      numbers : values_in_row (signed_key q.path) columns row
+          ≡ get_or (side_by_side (part_column (signed_key q.path) p) (part_column (unsigned_key q.path) p)) row []
       numbers = number_values file.rows q.path columns ascend (rows_only file.rows columns shaped) row
-          ∙ (λ j. get_or (side_by_side (sym (part_column_is (signed q.path)) j) (sym (part_column_is (unsigned q.path)) j)) row [])
+          ∙ (λ j. get_or (side_by_side (sym (part_column_is (signed_key q.path)) j) (sym (part_column_is (unsigned_key q.path)) j)) row [])
 
       of_type : (t : ColumnType) → is_number t ≡ true → values_in_row (record { path = q.path; type = t }) columns row
-          ≡ values_in_row (signed q.path) columns row
+          ≡ values_in_row (signed_key q.path) columns row
       of_type types.I64 h = refl
       of_type types.U64 h = unsigned_values file.rows q.path columns row
       of_type types.Bytes h = absurd (false≢true h)
@@ -68,7 +68,7 @@ module _ (schema : Schema) (file : ColumnFile) (p : Part) (has : HasColumnsOf sc
       of_type types.DateTime h = absurd (false≢true h)
 
       by : (b : Bool) → is_number q.type ≡ b → values_in_row q columns row
-          ≡ get_or (if b then side_by_side (part_column (signed q.path) p) (part_column (unsigned q.path) p) else part_column q p) row []
+          ≡ get_or (if b then side_by_side (part_column (signed_key q.path) p) (part_column (unsigned_key q.path) p) else part_column q p) row []
       by true on = of_type q.type on ∙ numbers
       by false off = plain_values file.rows q off columns ascend row ∙ ap (λ (l : Rows). get_or l row []) (sym (part_column_is q))
 
@@ -95,8 +95,8 @@ module _ (schema : Schema) (file : ColumnFile) (p : Part) (has : HasColumnsOf sc
       own : (k : ColumnKey) → length (part_column k p) ≡ file.rows
       own k = ap length (part_column_is k) ∙ long_column k columns shaped
 
-      by : (b : Bool) → length (if b then side_by_side (part_column (signed q.path) p) (part_column (unsigned q.path) p) else part_column q p) ≡ file.rows
-      by true = beside_long (part_column (signed q.path) p) (part_column (unsigned q.path) p) file.rows (own (signed q.path)) (own (unsigned q.path))
+      by : (b : Bool) → length (if b then side_by_side (part_column (signed_key q.path) p) (part_column (unsigned_key q.path) p) else part_column q p) ≡ file.rows
+      by true = beside_long (part_column (signed_key q.path) p) (part_column (unsigned_key q.path) p) file.rows (own (signed_key q.path)) (own (unsigned_key q.path))
       by false = own q
 
 -- ---- what is kept of a list, by places

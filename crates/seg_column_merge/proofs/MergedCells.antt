@@ -94,12 +94,12 @@ module _ (q : ColumnKey) (p : Place) where
       → of_rows (rows ++ more) ≡ xs ++ ys
   both rows more xs ys a b = flat_map-append (masked test values) rows more ∙ (λ j. a j ++ b j)
 
-  behind : (first : ℕ) (files : List ColumnFile) → p.0 < first → of_rows (file_rows first files) ≡ []
-  behind first [] lt = refl
-  behind first (f ∷ fs) lt =
+  later : (first : ℕ) (files : List ColumnFile) → p.0 < first → of_rows (file_rows first files) ≡ []
+  later first [] lt = refl
+  later first (f ∷ fs) lt =
       let other : nat_eq first p.0 ≡ false = grind (arith, nat_tests, lt) in
       both (map (file_row first) f.columns) (file_rows (first + 1) fs) [] [] (not_in_file first f.columns other)
-      (behind (first + 1) fs (omega (arith, lt)))
+      (later (first + 1) fs (omega (arith, lt)))
 
   at_file : (first k : ℕ) (files : List ColumnFile) → first + k ≡ p.0
       → of_rows (file_rows first files) ≡ values_in_row q (columns_of_file files k) p.1
@@ -107,7 +107,7 @@ module _ (q : ColumnKey) (p : Place) where
   at_file first zero (f ∷ fs) is =
       let this : nat_eq first p.0 ≡ true = grind (arith, nat_tests, is) in
       both (map (file_row first) f.columns) (file_rows (first + 1) fs) (values_in_row q f.columns p.1) []
-      (in_file first f.columns this) (behind (first + 1) fs (omega (arith, is)))
+      (in_file first f.columns this) (later (first + 1) fs (omega (arith, is)))
       ∙ append-nil (values_in_row q f.columns p.1)
   at_file first (suc k) (f ∷ fs) is =
       let other : nat_eq first p.0 ≡ false = grind (arith, nat_tests, is) in

@@ -42,22 +42,21 @@ same_kind_number t u e = number_kind t ∙ ap is_zero e ∙ sym (number_kind u)
     number_kind U64 = refl
     number_kind _ = refl
 
+pub all_numbers : (t : ColumnType) → is_number t ≡ true → (rows : List TableRow)
+    → AllByRecursion (λ r. HasType r.column_type r.column) rows
+    → AllByRecursion (λ r. kind_of r.column_type ≡ kind_of t) rows → AllByRecursion (λ r. HasNumbers r.column) rows
+all_numbers t n [] typed kinds = tt
+all_numbers t n (r ∷ rs) typed kinds = (one r.column typed.0, all_numbers t n rs typed.1 kinds.1)
+  where
+    one : (o : Option FileColumn) → HasType r.column_type o → HasNumbers o
+    one None is = tt
+    one (Some c) is = ap is_number is ∙ same_kind_number r.column_type t kinds.0 ∙ n
+
 module _ (counts : List ℕ) (places : List Place) (kept : List (List Bool)) (marks : AreMarks counts places kept) where
   counted : (first : ℕ) (rows : List TableRow) → AreOfFiles counts first rows
       → AllByRecursion (λ r. Counted counts places kept marks r.column) rows
   counted first [] are = tt
   counted first (r ∷ rs) are = (counted_one counts places kept marks first are.0 r.column are.1, counted are.0 rs are.2)
-
-  numbers : (t : ColumnType) → is_number t ≡ true → (rows : List TableRow)
-      → AllByRecursion (λ r. HasType r.column_type r.column) rows
-      → AllByRecursion (λ r. kind_of r.column_type ≡ kind_of t) rows
-      → AllByRecursion (λ r. HasNumbers r.column) rows
-  numbers t n [] typed kinds = tt
-  numbers t n (r ∷ rs) typed kinds = (one r.column typed.0, numbers t n rs typed.1 kinds.1)
-    where
-      one : (o : Option FileColumn) → HasType r.column_type o → HasNumbers o
-      one None is = tt
-      one (Some c) is = ap is_number is ∙ same_kind_number r.column_type t kinds.0 ∙ n
 
   others : (t : ColumnType) → is_number t ≡ false → (rows : List TableRow)
       → AllByRecursion (λ r. HasType r.column_type r.column) rows
@@ -93,7 +92,7 @@ module _ (counts : List ℕ) (places : List Place) (kept : List (List Bool)) (ma
     range_tells n =
         let range = range_of kept no_numbers rows in
         let a = counted 0 rows files in
-        let b = numbers t n rows typed kinds in
+        let b = all_numbers t n rows typed kinds in
         let some : range.some ≡ list_any is_filled values =
         some_is counts places kept marks rows a b fits ∙ sym filled_is in
         let type : type_of_range range ≡ free_number_type values =

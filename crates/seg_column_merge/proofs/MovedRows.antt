@@ -139,21 +139,21 @@ module _ (rows done : List TableRow) (slots : Slots) (heads : List Head) (so_far
     next_are : (o : Option TableRow) → row_at left (h.2 + 1) ≡ o
         → All (IsHead left) (next_heads least (h.2 + 1) o)
     next_are None e = λ k d lt. absurd (omega (arith, lt))
-    next_are (Some behind) e = by (row_lt behind least)
+    next_are (Some later) e = by (row_lt later least)
       where
         place : h.2 + 1 < length left
         place = by_place (cases_lt (h.2 + 1) (length left))
           where
             by_place : (h.2 + 1 < length left) ⊎ (length left ≤ h.2 + 1) → h.2 + 1 < length left
             by_place (inl lt) = lt
-            by_place (inr past) = absurd (none-some behind (sym (get_or_past left (h.2 + 1) None past) ∙ e))
+            by_place (inr past) = absurd (none-some later (sym (get_or_past left (h.2 + 1) None past) ∙ e))
 
-        by : (b : Bool) → All (IsHead left) (cond b [] (row_head behind (h.2 + 1) ∷ []))
+        by : (b : Bool) → All (IsHead left) (cond b [] (row_head later (h.2 + 1) ∷ []))
         by true = λ k d lt. absurd (omega (arith, lt))
-        by false = All-cons (IsHead left) (row_head behind (h.2 + 1)) []
+        by false = All-cons (IsHead left) (row_head later (h.2 + 1)) []
             (record {
               within = place;
-              is = λ row there. ap (λ (x : TableRow). row_head x (h.2 + 1)) (same_row (row_at left (h.2 + 1)) behind row e there);
+              is = λ row there. ap (λ (x : TableRow). row_head x (h.2 + 1)) (same_row (row_at left (h.2 + 1)) later row e there);
             }) (λ k d lt. absurd (omega (arith, lt)))
 
     heads_now : All (IsHead left) new
@@ -217,9 +217,9 @@ module _ (rows done : List TableRow) (slots : Slots) (heads : List Head) (so_far
 
     at_most_one : (o : Option TableRow) → length (next_heads least (h.2 + 1) o) ≤ 1
     at_most_one None = omega arith
-    at_most_one (Some behind) = by (row_lt behind least)
+    at_most_one (Some later) = by (row_lt later least)
       where
-        by : (b : Bool) → length (cond b [] (row_head behind (h.2 + 1) ∷ [])) ≤ 1
+        by : (b : Bool) → length (cond b [] (row_head later (h.2 + 1) ∷ [])) ≤ 1
         by true = omega arith
         by false = omega arith
 

@@ -20,7 +20,7 @@ use Rattle.seg_common.specs.declared.column_type.ColumnType.TheVariants as types
 use Rattle.seg_model.specs.Columns.{ColumnKey, ColumnValue, column_cmp, type_place}
 use Rattle.seg_columns.specs.DynamicColumns.{IsColumnOf, column_of}
 use Rattle.seg_column_file.specs.ColumnTable.{are_apart}
-use Rattle.seg_column_format.specs.FileBytes.{AreInOrder, IsWritten, WrittenColumn, code_of, may_stand_behind, read_column}
+use Rattle.seg_column_format.specs.FileBytes.{AreInOrder, IsWritten, WrittenColumn, code_of, may_stand_after, read_column}
 use Rattle.seg_column_format.specs.ModelColumns.{column_key, column_rows}
 use Rattle.seg_column_format.proofs.Exports.{type_read, same_type}
 use Rattle.seg_column_merge.specs.Cells.{cells, is_absent, is_of, rows_with}
@@ -37,7 +37,7 @@ use Rattle.seg_column_merge.proofs.AgreeingTypes.{types_agree}
 use Rattle.seg_column_merge.proofs.ModelColumns.{at_type}
 use Rattle.seg_column_merge.proofs.DecidedColumns.{model_has, model_mixed, model_unmixed}
 use Rattle.seg_column_merge.proofs.GroupSteps.{kind_decided}
-use Rattle.seg_column_merge.proofs.KeyGroups.{cut_behind, group_is_all}
+use Rattle.seg_column_merge.proofs.KeyGroups.{cut_after, group_is_all}
 use Rattle.seg_column_merge.proofs.ColumnKeys.{key_is}
 use Rattle.seg_column_merge.proofs.KeyOrder.{key_cmp, key_then}
 use Rattle.seg_column_merge.proofs.FileColumns.{all_of_files}
@@ -158,28 +158,28 @@ codes_apart t types.DateTime lt = apart (code_of t) 6 (kind_of t) 5 (code_bound 
 less_number : (a b : ℕ) → is_lt (nat_cmp a b) ≡ true → a < b
 less_number a b e = grind (arith, nat_tests, e)
 
-behind_by : (o : Ordering) (t u : ColumnType) → is_lt (ordering_then o (nat_cmp (kind_of t) (kind_of u))) ≡ true
+after_by : (o : Ordering) (t u : ColumnType) → is_lt (ordering_then o (nat_cmp (kind_of t) (kind_of u))) ≡ true
     → (is_lt o || (is_eq o && are_apart (code_of t) (code_of u))) ≡ true
-behind_by Less t u e = refl
-behind_by Equal t u e = codes_apart t u (less_number (kind_of t) (kind_of u) e)
-behind_by Greater t u e = absurd (false≢true e)
+after_by Less t u e = refl
+after_by Equal t u e = codes_apart t u (less_number (kind_of t) (kind_of u) e)
+after_by Greater t u e = absurd (false≢true e)
 
 -- a column whose key is below that of a row may stand before the row's
 may_stand : (c d : WrittenColumn) (x : TableRow) → IsBelow x c → d.path ≡ x.path.now
-    → kind_of d.type ≡ kind_of x.column_type → may_stand_behind c d ≡ true
+    → kind_of d.type ≡ kind_of x.column_type → may_stand_after c d ≡ true
 may_stand c d x below path kind =
-    behind_by (slice_cmp nat_cmp c.path d.path) c.type d.type
+    after_by (slice_cmp nat_cmp c.path d.path) c.type d.type
     ((λ j. is_lt (ordering_then (slice_cmp nat_cmp c.path (path j)) (nat_cmp (kind_of c.type) (kind j)))) ∙ below)
 
 order_more : (columns : List WrittenColumn) (d : WrittenColumn) → AreInOrder columns
-    → AllByRecursion (λ c. may_stand_behind c d ≡ true) columns → AreInOrder (columns ++ d ∷ [])
+    → AllByRecursion (λ c. may_stand_after c d ≡ true) columns → AreInOrder (columns ++ d ∷ [])
 order_more [] d order all = tt
 order_more (c ∷ []) d order all = (all.0, tt)
 order_more (c ∷ e ∷ cs) d order all = (order.0, order_more (e ∷ cs) d order.1 all.1)
 
 all_stand : (columns : List WrittenColumn) (d : WrittenColumn) (x : TableRow) → AllByRecursion (IsBelow x) columns
     → d.path ≡ x.path.now → kind_of d.type ≡ kind_of x.column_type
-    → AllByRecursion (λ c. may_stand_behind c d ≡ true) columns
+    → AllByRecursion (λ c. may_stand_after c d ≡ true) columns
 all_stand [] d x below path kind = tt
 all_stand (c ∷ cs) d x below path kind = (may_stand c d x below.0 path kind, all_stand cs d x below.1 path kind)
 
@@ -473,7 +473,7 @@ module _ (merge : Merge) (is_merge : IsMerge merge) (table : List TableRow)
 
   pub next_cut : IsCut table stop
   next_cut = record {
-    below = cut_behind of.old table of.sorted of.stable start stop x there first group below;
+    below = cut_after of.old table of.sorted of.stable start stop x there first group below;
   }
 
   pub put_more : (old new : MergedFile) (so_far : SoFar merge table start old)
@@ -484,7 +484,7 @@ module _ (merge : Merge) (is_merge : IsMerge merge) (table : List TableRow)
       let next = are_next adds.type adds.decided kinds adds.added adds.are in
       let below_x : AllByRecursion (IsBelow x) so_far.columns =
       subst (λ (r : TableRow). AllByRecursion (IsBelow r) so_far.columns) (sym first) (so_far.below x there) in
-      let behind = cut_behind of.old table of.sorted of.stable start stop x there first group below in
+      let later = cut_after of.old table of.sorted of.stable start stop x there first group below in
       record {
         columns = so_far.columns ++ adds.added;
         is = adds.file_is;
@@ -493,7 +493,7 @@ module _ (merge : Merge) (is_merge : IsMerge merge) (table : List TableRow)
         below = λ d more.
             let lt : row_lt x (get_or table stop d) ≡ true =
             ap (λ (r : TableRow). row_lt r (get_or table stop d)) (first ∙ get_or_default table start x d there)
-            ∙ behind start d group.some more in
+            ∙ later start d group.some more in
             all_both (IsBelow (get_or table stop d)) so_far.columns adds.added
             (below_next x (get_or table stop d) lt so_far.columns below_x) (next.below (get_or table stop d) lt);
         found = λ q.

@@ -1,5 +1,5 @@
 -- The values that a row of one file has at a key.
-use Rattle.std.proofs.Common.{◌≡◌, ℕ, zero, suc, ◌+◌, ◌<◌, Bool, true, false, cond, ◌||◌, List, [], ◌∷◌, ◌++◌, length, map, filter, get_or, Option, Some, None, refl, sym, ap, subst, inl, inr, ◌⊎◌, ◌∙◌, arith}
+use Rattle.std.proofs.Common.{◌≡◌, ℕ, zero, suc, ◌+◌, ◌<◌, Bool, true, false, cond, List, [], ◌∷◌, ◌++◌, length, map, filter, get_or, Option, Some, None, refl, sym, ap, subst, inl, inr, ◌⊎◌, ◌∙◌, arith}
 use Rattle.std.specs.Prelude.{◌&&◌, not, is_some, nat_eq, replicate, unwrap_or}
 use Rattle.std.specs.Cmp.Lexicographic.{slice_cmp}
 use Rattle.std.specs.FinMap.Entries.{find}
@@ -21,25 +21,12 @@ use Rattle.seg_common.proofs.Numbers.{is_equal, then_first, then_second}
 use Rattle.seg_column_file.specs.ColumnFiles.{NamedColumn}
 use Rattle.seg_column_format.specs.ModelColumns.{column_key}
 use Rattle.seg_column_merge.specs.MergedColumns.{values_in_row}
-use Rattle.seg_model.specs.Columns.{ColumnKey, ColumnValue, column_cmp, is_number, type_place}
+use Rattle.seg_model.specs.Columns.{ColumnKey, ColumnValue, column_cmp, is_number}
 use Rattle.seg_model.specs.Join.{side_by_side, joined_keys}
-use Rattle.seg_column_format.proofs.Exports.{Rows, entry, is_other, kind_cmp, kind_place, kind_total, rows_at, same_column, ties}
+use Rattle.seg_column_format.proofs.Exports.{Rows, entry, is_other, kind_cmp, kind_place, kind_total, rows_at, same_column, ties, signed_key, unsigned_key}
+use Rattle.seg_column_merge.proofs.ColumnKeys.{among, among_is}
 
 -- ---- keys of a path and a kind
-
-abbrev among : Ordering → ColumnType → ColumnType → Bool
-among o I64 u =
-    is_eq (ordering_then o (nat_cmp (type_place u) 0)) || (is_eq (ordering_then o (nat_cmp (type_place u) 1)) || false)
-among o U64 u =
-    is_eq (ordering_then o (nat_cmp (type_place u) 0)) || (is_eq (ordering_then o (nat_cmp (type_place u) 1)) || false)
-among o t u = is_eq (ordering_then o (nat_cmp (type_place u) (type_place t))) || false
-
-among_is : (path other : List ℕ) (t u : ColumnType)
-    → is_among column_cmp (joined_keys (record { path = other; type = t })) (record { path = path; type = u })
-    ≡ among (slice_cmp nat_cmp path other) t u
-among_is path other I64 u = refl
-among_is path other U64 u = refl
-among_is path other _ u = refl
 
 same_kind : (o : Ordering) (t u : ColumnType)
     → among o t u ≡ is_eq (ordering_then o (nat_cmp (kind_place u) (kind_place t)))
@@ -148,14 +135,8 @@ own_key q k h tie = λ i. record {
 }
 
 -- of numbers it is one of both
-abbrev pub signed : List ℕ → ColumnKey
-signed path = record { path = path; type = I64 }
-
-abbrev pub unsigned : List ℕ → ColumnKey
-unsigned path = record { path = path; type = U64 }
-
 one_of : (path other : List ℕ) (t : ColumnType) → path ≡ other → nat_cmp 1 (kind_place t) ≡ Equal
-    → (record { path = other; type = t } ≡ signed path) ⊎ (record { path = other; type = t } ≡ unsigned path)
+    → (record { path = other; type = t } ≡ signed_key path) ⊎ (record { path = other; type = t } ≡ unsigned_key path)
 one_of path other I64 same tie = inl (λ i. record { path = sym same i; type = I64 })
 one_of path other U64 same tie = inr (λ i. record { path = sym same i; type = U64 })
 one_of path other Bytes same tie = cc tie
@@ -164,7 +145,7 @@ one_of path other Boolean same tie = cc tie
 one_of path other IpAddr same tie = cc tie
 one_of path other DateTime same tie = cc tie
 
-number_cases : (path : List ℕ) (k : ColumnKey) → kind_cmp (signed path) k ≡ Equal → (k ≡ signed path) ⊎ (k ≡ unsigned path)
+number_cases : (path : List ℕ) (k : ColumnKey) → kind_cmp (signed_key path) k ≡ Equal → (k ≡ signed_key path) ⊎ (k ≡ unsigned_key path)
 number_cases path k tie = one_of path k.path k.type
     (texts_apart path k.path (then_first (slice_cmp nat_cmp path k.path) (nat_cmp 1 (kind_place k.type)) tie))
     (then_second (slice_cmp nat_cmp path k.path) (nat_cmp 1 (kind_place k.type)) tie)
@@ -252,7 +233,7 @@ module _ (count : ℕ) where
 
   module _ (path : List ℕ) where
     abbrev pub numbers_at : List NamedColumn → Rows
-    numbers_at cs = side_by_side (found_at cs (signed path)) (found_at cs (unsigned path))
+    numbers_at cs = side_by_side (found_at cs (signed_key path)) (found_at cs (unsigned_key path))
 
     own : (q : ColumnKey) (c : NamedColumn) → column_key c ≡ q → eq_by_cmp column_cmp q (column_key c) ≡ true
     own q c is = ap (eq_by_cmp column_cmp q) is ∙ ap is_eq (ties column_cmp_total q)
@@ -267,48 +248,48 @@ module _ (count : ℕ) where
         by false e = e
         by true e = absurd (other (same_column q (column_key c) e ∙ is))
 
-    tie_with : (q : ColumnKey) (c : NamedColumn) → kind_cmp (signed path) (column_key c) ≡ Equal → kind_cmp q (signed path) ≡ Equal
+    tie_with : (q : ColumnKey) (c : NamedColumn) → kind_cmp (signed_key path) (column_key c) ≡ Equal → kind_cmp q (signed_key path) ≡ Equal
         → kind_cmp q (column_key c) ≡ Equal
-    tie_with q c tie same = kind_total.congr q (signed path) (column_key c) same ∙ tie
+    tie_with q c tie same = kind_total.congr q (signed_key path) (column_key c) same ∙ tie
 
-    both_tie : kind_cmp (unsigned path) (signed path) ≡ Equal
+    both_tie : kind_cmp (unsigned_key path) (signed_key path) ≡ Equal
     both_tie = ap (λ o. ordering_then o Equal) (ties nat_list_cmp_total path)
 
     pub number_values : (cs : List NamedColumn) → IsStrictlySortedBy kind_cmp (map column_key cs)
         → AllByRecursion (λ c. length (rows_at c) ≡ count) cs → (row : ℕ)
-        → values_in_row (signed path) cs row ≡ get_or (numbers_at cs) row []
+        → values_in_row (signed_key path) cs row ≡ get_or (numbers_at cs) row []
     unfolding IsStrictlySortedBy
     number_values [] up sized row =
         sym (ap (λ (l : Rows). get_or l row []) (beside_none (replicate count []) count (length-replicate count [])) ∙ empty_row count row)
     number_values (c ∷ cs) up sized row =
-        by (is_eq (kind_cmp (signed path) (column_key c))) refl (number_values cs up.1 sized.1 row)
+        by (is_eq (kind_cmp (signed_key path) (column_key c))) refl (number_values cs up.1 sized.1 row)
       where
-        by : (b : Bool) → is_eq (kind_cmp (signed path) (column_key c)) ≡ b
-            → values_in_row (signed path) cs row ≡ get_or (numbers_at cs) row []
-            → values_in_row (signed path) (c ∷ cs) row ≡ get_or (numbers_at (c ∷ cs)) row []
+        by : (b : Bool) → is_eq (kind_cmp (signed_key path) (column_key c)) ≡ b
+            → values_in_row (signed_key path) cs row ≡ get_or (numbers_at cs) row []
+            → values_in_row (signed_key path) (c ∷ cs) row ≡ get_or (numbers_at (c ∷ cs)) row []
         by false e rest =
-            passed_by (signed path) c cs row e
-            ∙ (rest ∙ (λ j. get_or (side_by_side (sym (skipped (signed path) c cs (not_tied (signed path) c e)) j)
-            (sym (skipped (unsigned path) c cs (not_tied (unsigned path) c e)) j)) row []))
+            passed_by (signed_key path) c cs row e
+            ∙ (rest ∙ (λ j. get_or (side_by_side (sym (skipped (signed_key path) c cs (not_tied (signed_key path) c e)) j)
+            (sym (skipped (unsigned_key path) c cs (not_tied (unsigned_key path) c e)) j)) row []))
         by true e rest =
-            alone (signed path) c cs row e up.0
+            alone (signed_key path) c cs row e up.0
             ∙ ap (λ (l : Rows). get_or l row []) (sym (one (number_cases path (column_key c) tie)))
           where
-            tie : kind_cmp (signed path) (column_key c) ≡ Equal
-            tie = is_equal (kind_cmp (signed path) (column_key c)) e
+            tie : kind_cmp (signed_key path) (column_key c) ≡ Equal
+            tie = is_equal (kind_cmp (signed_key path) (column_key c)) e
 
-            one : (column_key c ≡ signed path) ⊎ (column_key c ≡ unsigned path) → numbers_at (c ∷ cs) ≡ rows_at c
+            one : (column_key c ≡ signed_key path) ⊎ (column_key c ≡ unsigned_key path) → numbers_at (c ∷ cs) ≡ rows_at c
             one (inl is) =
-                (λ j. side_by_side (here (signed path) c cs (own (signed path) c is) j)
-                ((skipped (unsigned path) c cs (not_own (unsigned path) (signed path) c is (λ e. apart_types (sym (ap (λ (k : ColumnKey). k.type) e))))
-                ∙ gone (column_key c) (unsigned path) (tie_with (unsigned path) c tie both_tie) cs up.0) j))
+                (λ j. side_by_side (here (signed_key path) c cs (own (signed_key path) c is) j)
+                ((skipped (unsigned_key path) c cs (not_own (unsigned_key path) (signed_key path) c is (λ e. apart_types (sym (ap (λ (k : ColumnKey). k.type) e))))
+                ∙ gone (column_key c) (unsigned_key path) (tie_with (unsigned_key path) c tie both_tie) cs up.0) j))
                 ∙ beside_none (rows_at c) count sized.0
             one (inr is) =
-                (λ j. side_by_side ((skipped (signed path) c cs (not_own (signed path) (unsigned path) c is (λ e. apart_types (ap (λ (k : ColumnKey). k.type) e)))
-                ∙ gone (column_key c) (signed path) tie cs up.0) j)
-                (here (unsigned path) c cs (own (unsigned path) c is) j))
+                (λ j. side_by_side ((skipped (signed_key path) c cs (not_own (signed_key path) (unsigned_key path) c is (λ e. apart_types (ap (λ (k : ColumnKey). k.type) e)))
+                ∙ gone (column_key c) (signed_key path) tie cs up.0) j)
+                (here (unsigned_key path) c cs (own (unsigned_key path) c is) j))
                 ∙ none_beside (rows_at c) count sized.0
 
-    pub unsigned_values : (cs : List NamedColumn) (row : ℕ) → values_in_row (unsigned path) cs row ≡ values_in_row (signed path) cs row
+    pub unsigned_values : (cs : List NamedColumn) (row : ℕ) → values_in_row (unsigned_key path) cs row ≡ values_in_row (signed_key path) cs row
     unsigned_values cs row =
-        λ j. flat_map (λ c. get_or (rows_at c) row []) (filter (λ c. (test_is (unsigned path) c ∙ sym (test_is (signed path) c)) j) cs)
+        λ j. flat_map (λ c. get_or (rows_at c) row []) (filter (λ c. (test_is (unsigned_key path) c ∙ sym (test_is (signed_key path) c)) j) cs)

@@ -110,9 +110,9 @@ module _ (counts : List ℕ) (p : Place) where
       (omega (arith, rise.0, lt))
       ∙ get_or-set_other sources c.file p.0 (source_of m (c.handle).column) Nothing other
 
-  behind_none : (cs : List (Option FileColumn)) (m : NumberMap) (ms : List NumberMap) (s : Source) → IsFrom cs ms s p
+  after_none : (cs : List (Option FileColumn)) (m : NumberMap) (ms : List NumberMap) (s : Source) → IsFrom cs ms s p
       → IsFrom (None ∷ cs) (m ∷ ms) s p
-  behind_none cs m ms s (inl is) = inl (record {
+  after_none cs m ms s (inl is) = inl (record {
     at = suc is.at;
     column = is.column;
     there = is.there;
@@ -120,11 +120,11 @@ module _ (counts : List ℕ) (p : Place) where
     source_is = is.source_is;
     cell_is = is.cell_is;
   })
-  behind_none cs m ms s (inr is) = inr (record { source_is = is.source_is; cell_is = is.cell_is })
+  after_none cs m ms s (inr is) = inr (record { source_is = is.source_is; cell_is = is.cell_is })
 
-  behind : (c : FileColumn) (cs : List (Option FileColumn)) (m : NumberMap) (ms : List NumberMap) (s : Source)
+  later : (c : FileColumn) (cs : List (Option FileColumn)) (m : NumberMap) (ms : List NumberMap) (s : Source)
       → nat_eq c.file p.0 ≡ false → IsFrom cs ms s p → IsFrom (Some c ∷ cs) (m ∷ ms) s p
-  behind c cs m ms s other (inl is) = inl (record {
+  later c cs m ms s other (inl is) = inl (record {
     at = suc is.at;
     column = is.column;
     there = is.there;
@@ -132,7 +132,7 @@ module _ (counts : List ℕ) (p : Place) where
     source_is = is.source_is;
     cell_is = cell_more c cs other ∙ is.cell_is;
   })
-  behind c cs m ms s other (inr is) = inr (record {
+  later c cs m ms s other (inr is) = inr (record {
     source_is = is.source_is;
     cell_is = cell_more c cs other ∙ is.cell_is;
   })
@@ -186,7 +186,7 @@ module _ (counts : List ℕ) (p : Place) where
   is_from first [] ms sources rise many long none le = inr (record { source_is = none p.0 le; cell_is = refl })
   is_from first (o ∷ cs) [] sources rise many long none le = absurd (omega (arith, many))
   is_from first (None ∷ cs) (m ∷ ms) sources rise many long none le =
-      behind_none cs m ms (get_or (with_maps sources cs ms) p.0 Nothing)
+      after_none cs m ms (get_or (with_maps sources cs ms) p.0 Nothing)
       (is_from first cs ms sources rise (omega (arith, many)) long none le)
   is_from first (Some c ∷ cs) (m ∷ ms) sources rise many long none le =
       elim (cases_lt p.0 c.file) [
@@ -195,7 +195,7 @@ module _ (counts : List ℕ) (p : Place) where
           | inl lt ↦
               let other : nat_eq c.file p.0 ≡ false = grind (arith, nat_tests, lt) in
               let after = set sources c.file (source_of m (c.handle).column) in
-              behind c cs m ms (get_or (with_maps after cs ms) p.0 Nothing) other
+              later c cs m ms (get_or (with_maps after cs ms) p.0 Nothing) other
               (is_from (c.file + 1) cs ms after rise.3 (omega (arith, many))
               (length-set sources c.file (source_of m (c.handle).column) ∙ long)
               (none_after c cs m ms sources first rise long none) (omega (arith, lt)))

@@ -122,8 +122,8 @@ cell_at counts p first (Some d ∷ cs) rise zero c is file =
     (later_files counts p (d.file + 1) cs rise.3 (omega (arith, here)))
     ∙ append-nil (values_in d p.1) ∙ ap (λ (e : FileColumn). values_in e p.1) same
 cell_at counts p first (Some d ∷ cs) rise (suc at) c is file =
-    let behind : d.file + 1 ≤ c.file = file_from counts (d.file + 1) cs rise.3 at c is in
-    let other : nat_eq d.file p.0 ≡ false = grind (arith, nat_tests, behind, file) in
+    let later : d.file + 1 ≤ c.file = file_from counts (d.file + 1) cs rise.3 at c is in
+    let other : nat_eq d.file p.0 ≡ false = grind (arith, nat_tests, later, file) in
     ap (λ (b : Bool). cond b (values_in d p.1) [] ++ column_cells cs p) other
     ∙ cell_at counts p (d.file + 1) cs rise.3 at c is file
 

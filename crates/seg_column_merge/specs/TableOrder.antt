@@ -59,7 +59,7 @@ pub record Begins (slots : Slots) (at : ℕ) (old new : List Head) : Type 0 wher
 -- the head of the row after another one, if it goes on from it
 abbrev pub next_heads : TableRow → ℕ → Option TableRow → List Head
 next_heads row next None = []
-next_heads row next (Some behind) = cond (row_lt behind row) [] (row_head behind next ∷ [])
+next_heads row next (Some later) = cond (row_lt later row) [] (row_head later next ∷ [])
 
 abbrev pub Advances : Slots → TableRow → ℕ → List Head → List Head → Type 0
 Advances slots row at old new = IsPermutation (next_heads row (at + 1) (row_at slots (at + 1)) ++ old) new

@@ -135,13 +135,13 @@ fn advance<'a>(
     if next >= slots.len() {
         return Ok(());
     }
-    let Some(behind) = &slots[next] else {
+    let Some(later) = &slots[next] else {
         return Ok(());
     };
-    if is_below(behind, row) {
+    if is_below(later, row) {
         return Ok(());
     }
-    push_head(heads, behind, next)
+    push_head(heads, later, next)
 }
 
 fn push_row<'a>(table: &mut Vec<TableRow<'a>>, row: TableRow<'a>) -> Result<(), AllocError>

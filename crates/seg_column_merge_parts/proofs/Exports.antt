@@ -6,3 +6,4 @@ pub use Rattle.seg_column_merge_parts.proofs.KeptValueTests.{any_both, any_kept,
 pub use Rattle.seg_column_merge_parts.proofs.MergedRows.{rows_merged}
 pub use Rattle.seg_column_merge_parts.proofs.NumberTypes.{large_unsigned, negative_signed, negative_unsigned, type_of_rows}
 pub use Rattle.seg_column_merge_parts.proofs.RangeLaws.{signed_large, signed_negative, signed_some, unsigned_large, unsigned_negative, unsigned_some}
+pub use Rattle.seg_column_merge_parts.proofs.RowValueBytes.{AreOctets, octets_left, octets_taken}

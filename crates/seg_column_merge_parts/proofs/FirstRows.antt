@@ -85,11 +85,11 @@ all_back P [] ys all = all
 all_back P (x ∷ xs) ys all = all_back P xs ys (All-tail P x (xs ++ ys) all)
 
 -- the rows that are left after a file
-abbrev pub behind : List ℕ → ℕ → List Place
-behind counts file = stacked (file + 1) (drop (file + 1) counts)
+abbrev pub later : List ℕ → ℕ → List Place
+later counts file = stacked (file + 1) (drop (file + 1) counts)
 
 pub next_file : (counts : List ℕ) (file : ℕ) → file < length counts
-    → stacked file (drop file counts) ≡ rows_from file 0 (get_or counts file 0) ++ behind counts file
+    → stacked file (drop file counts) ≡ rows_from file 0 (get_or counts file 0) ++ later counts file
 next_file counts file lt = ap (stacked file) (drop_more counts file 0 lt)
 
 module _ (sources : List Source) (counts : List ℕ) (file : ℕ) (lt : file < length counts) where
@@ -98,7 +98,7 @@ module _ (sources : List Source) (counts : List ℕ) (file : ℕ) (lt : file < l
   puts_file all row fits =
       let count = get_or counts file 0 in
       let front : All (IsPut sources) (rows_from file 0 count) =
-      all_front (IsPut sources) (rows_from file 0 count) (behind counts file)
+      all_front (IsPut sources) (rows_from file 0 count) (later counts file)
       (subst (All (IsPut sources)) (next_file counts file lt) all) in
       let within : row < count - 0 = omega (arith, fits) in
       subst (IsPut sources)
@@ -106,23 +106,23 @@ module _ (sources : List Source) (counts : List ℕ) (file : ℕ) (lt : file < l
       (front row (file, 0)
       (omega (arith, within, length-map-range_with_len {X = Place} (λ (r : ℕ). (file, r)) 0 (count - 0))))
 
-  pub left_files : All (IsPut sources) (stacked file (drop file counts)) → All (IsPut sources) (behind counts file)
+  pub left_files : All (IsPut sources) (stacked file (drop file counts)) → All (IsPut sources) (later counts file)
   left_files all =
-      all_back (IsPut sources) (rows_from file 0 (get_or counts file 0)) (behind counts file)
+      all_back (IsPut sources) (rows_from file 0 (get_or counts file 0)) (later counts file)
       (subst (All (IsPut sources)) (next_file counts file lt) all)
 
   pub one_more_file : (before after start : List ℕ)
       → after ≡ before ++ row_bytes (joined sources (rows_from file 0 (get_or counts file 0)))
       → before ++ row_bytes (joined sources (stacked file (drop file counts))) ≡ start
-      → after ++ row_bytes (joined sources (behind counts file)) ≡ start
+      → after ++ row_bytes (joined sources (later counts file)) ≡ start
   one_more_file before after start more all =
       let here = joined sources (rows_from file 0 (get_or counts file 0)) in
-      let rest = joined sources (behind counts file) in
+      let rest = joined sources (later counts file) in
       ap (λ (l : List ℕ). l ++ row_bytes rest) more ∙ append_assoc before (row_bytes here) (row_bytes rest)
       ∙ ap (λ (l : List ℕ). before ++ l) (sym (flat_map-append (flat_map {X = List ℕ} {A = ℕ} (λ code. code)) here rest))
       ∙ ap (λ (rs : List (List (List ℕ))). before ++ row_bytes rs)
       (sym (map-append (λ (p : Place). row_codes (get_or sources p.0 Nothing) p.1)
-      (rows_from file 0 (get_or counts file 0)) (behind counts file)))
+      (rows_from file 0 (get_or counts file 0)) (later counts file)))
       ∙ ap (λ (ps : List Place). before ++ row_bytes (joined sources ps)) (sym (next_file counts file lt))
       ∙ all
 

@@ -18,7 +18,7 @@ use Rattle.seg_column_file.specs.RowOrders.{Place, rows_from, stacked}
 use Rattle.seg_column_merge_parts.specs.SourceRows.{AddsEnds, first_rows, joined, row_codes}
 use Rattle.seg_column_merge_parts.specs.declared.source.Source.{Source}
 use Rattle.seg_column_merge_parts.specs.declared.source.Source.TheVariants.{Nothing}
-use Rattle.seg_column_merge_parts.proofs.FirstRows.{behind, next_file}
+use Rattle.seg_column_merge_parts.proofs.FirstRows.{later, next_file}
 use Rattle.seg_column_merge_parts.proofs.RowValueBytes.{AreOctets, no_start, octets_left, octets_taken}
 
 -- ---- of several lists of rows
@@ -38,13 +38,13 @@ module _ (sources : List Source) (counts : List ℕ) (file : ℕ) (lt : file < l
   here = joined sources (rows_from file 0 (get_or counts file 0))
 
   abbrev rest : List (List (List ℕ))
-  rest = joined sources (behind counts file)
+  rest = joined sources (later counts file)
 
   both : joined sources (stacked file (drop file counts)) ≡ here ++ rest
   both =
       ap (joined sources) (next_file counts file lt)
       ∙ map-append (λ (p : Place). row_codes (get_or sources p.0 Nothing) p.1) (rows_from file 0 (get_or counts file 0))
-      (behind counts file)
+      (later counts file)
 
   pub ends_of_file : (end next : ℕ) (out after start : List ℕ) → AddsEnds here end out after next
       → out ++ number_bytes (ends_from end (joined sources (stacked file (drop file counts)))) ≡ start
@@ -108,8 +108,8 @@ counted {T = T} value start (suc n) known =
     one (Some x) some rest long = ap suc long
     one None some rest long = absurd (false≢true some)
 
-abbrev pub ends_behind : ℕ → List ℕ → ℕ → ℕ → List ℕ
-ends_behind before bytes row count = map (λ r. before + start_at bytes (r + 1)) (range_with_len row count)
+abbrev pub ends_after : ℕ → List ℕ → ℕ → ℕ → List ℕ
+ends_after before bytes row count = map (λ r. before + start_at bytes (r + 1)) (range_with_len row count)
 
 module _ {T : Type 0} (width : ℕ) (decoded : List ℕ → Option T) (code : T → List ℕ) (docs : ℕ) (bytes : List ℕ)
     (is : IsColumn width decoded docs bytes) where
@@ -142,7 +142,7 @@ module _ {T : Type 0} (width : ℕ) (decoded : List ℕ → Option T) (code : T 
 
   ends_on : (before row count : ℕ) → row + count ≤ docs
       → ends_from (before + start_at bytes row) (map codes (range_with_len row count))
-      ≡ ends_behind before bytes row count
+      ≡ ends_after before bytes row count
   ends_on before row zero fits = refl
   ends_on before row (suc count) fits =
       let end : before + start_at bytes row + length (codes row) ≡ before + start_at bytes (row + 1) =
@@ -167,7 +167,7 @@ module _ {T : Type 0} (width : ℕ) (decoded : List ℕ → Option T) (code : T 
 
   -- the ends and how many values there are, where they are added as the file has them
   pub adds_ends : (before count : ℕ) (old new : List ℕ) (end : ℕ) → count ≤ docs
-      → new ≡ old ++ number_bytes (ends_behind before bytes 0 count) → end ≡ before + start_at bytes count → end < 2 ^ 64
+      → new ≡ old ++ number_bytes (ends_after before bytes 0 count) → end ≡ before + start_at bytes count → end < 2 ^ 64
       → AddsEnds (map codes (range_with_len 0 count)) before old new end
   adds_ends before count old new end fits put all few =
       let none : before ≡ before + start_at bytes 0 = omega (arith, no_start bytes) in
@@ -194,7 +194,7 @@ module _ (bytes : List ℕ) (small : AreOctets bytes) where
       (octets_taken 8 (drop (8 * row) bytes) (octets_left (8 * row) bytes small)) (ap (start_at bytes) next)
 
   ends_stand : (row count : ℕ) → 8 * (row + count) ≤ length bytes
-      → drop (8 * row) bytes ≡ number_bytes (ends_behind 0 bytes row count) ++ drop (8 * (row + count)) bytes
+      → drop (8 * row) bytes ≡ number_bytes (ends_after 0 bytes row count) ++ drop (8 * (row + count)) bytes
   ends_stand row zero fits =
       let same : row ≡ row + 0 = omega arith in ap (λ (k : ℕ). drop (8 * k) bytes) same
   ends_stand row (suc count) fits =
@@ -202,7 +202,7 @@ module _ (bytes : List ℕ) (small : AreOctets bytes) where
       let step : 8 * row + 8 ≡ 8 * (row + 1) = omega arith in
       let none : start_at bytes (row + 1) ≡ 0 + start_at bytes (row + 1) = omega arith in
       let part = take 8 (drop (8 * row) bytes) in
-      let rest = number_bytes (ends_behind 0 bytes (row + 1) count) in
+      let rest = number_bytes (ends_after 0 bytes (row + 1) count) in
       let left = drop (8 * (row + suc count)) bytes in
       sym (take-append-drop 8 (drop (8 * row) bytes))
       ∙ ap (λ (l : List ℕ). part ++ l) (drop-drop 8 (8 * row) bytes)
@@ -214,21 +214,21 @@ module _ (bytes : List ℕ) (small : AreOctets bytes) where
       ∙ ap (λ (n : ℕ). (to_le_bytes w64 n ++ rest) ++ left) none
 
   pub first_ends : (count : ℕ) → 8 * count ≤ length bytes
-      → take (8 * count) bytes ≡ number_bytes (ends_behind 0 bytes 0 count)
+      → take (8 * count) bytes ≡ number_bytes (ends_after 0 bytes 0 count)
   first_ends count fits =
       let same : 0 + count ≡ count = omega arith in
-      append_cancel_right (take (8 * count) bytes) (number_bytes (ends_behind 0 bytes 0 count)) (drop (8 * count) bytes)
+      append_cancel_right (take (8 * count) bytes) (number_bytes (ends_after 0 bytes 0 count)) (drop (8 * count) bytes)
       (take-append-drop (8 * count) bytes
       ∙ ends_stand 0 count (omega (arith, fits))
-      ∙ ap (λ (k : ℕ). number_bytes (ends_behind 0 bytes 0 count) ++ drop (8 * k) bytes) same)
+      ∙ ap (λ (k : ℕ). number_bytes (ends_after 0 bytes 0 count) ++ drop (8 * k) bytes) same)
 
 -- one more end, raised
 pub one_more_end : (before : ℕ) (bytes : List ℕ) (row next : ℕ) (start out after : List ℕ)
-    → out ≡ start ++ number_bytes (ends_behind before bytes 0 row) → next ≡ before + start_at bytes (row + 1)
-    → after ≡ out ++ to_le_bytes w64 next → after ≡ start ++ number_bytes (ends_behind before bytes 0 (row + 1))
+    → out ≡ start ++ number_bytes (ends_after before bytes 0 row) → next ≡ before + start_at bytes (row + 1)
+    → after ≡ out ++ to_le_bytes w64 next → after ≡ start ++ number_bytes (ends_after before bytes 0 (row + 1))
 one_more_end before bytes row next start out after done is put =
     let f : ℕ → ℕ = λ r. before + start_at bytes (r + 1) in
-    let so_far = ends_behind before bytes 0 row in
+    let so_far = ends_after before bytes 0 row in
     put
     ∙ (λ i. done i ++ to_le_bytes w64 (is i))
     ∙ append_assoc start (number_bytes so_far) (to_le_bytes w64 (f row))
@@ -258,7 +258,7 @@ adds_same_ends count before old new (Ok end) put all few =
 pub all_ends_added : {T E : Type 0} (width : ℕ) (decoded : List ℕ → Option T) (code : T → List ℕ) (seen : List (List T))
     (bytes : List ℕ) → IsColumn width decoded (length seen) bytes → rows_of width decoded (length seen) bytes ≡ seen
     → (count : ℕ) → count ≤ length seen → (before : ℕ) (old new : List ℕ) (r : Result ℕ E)
-    → OnOk r (new ≡ old ++ number_bytes (ends_behind before bytes 0 count))
+    → OnOk r (new ≡ old ++ number_bytes (ends_after before bytes 0 count))
     → IfOk r (λ end. end ≡ before + start_at bytes count) → IfOk r (λ end. end < 2 ^ 64)
     → IfOk r (AddsEnds (map (λ row. map code (get_or seen row [])) (range_with_len 0 count)) before old new)
 all_ends_added width decoded code seen bytes is are count fits before old new (Err e) put all few = tt

@@ -84,7 +84,7 @@ fn advance<'a>(
     ensures { OnOk result (Advances column.now place (ord + 1) heads.old heads.new) }
 {
     column.are_marked();
-    push_head(heads, column, place, column.used_behind(ord))
+    push_head(heads, column, place, column.used_after(ord))
 }
 
 fn push_head<'a>(

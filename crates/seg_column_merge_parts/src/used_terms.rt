@@ -106,7 +106,7 @@ impl UsedTerms {
     }
 
     /// That of the first one after an ordinal.
-    pub(crate) fn used_behind(&self, ord: usize) -> Option<usize>
+    pub(crate) fn used_after(&self, ord: usize) -> Option<usize>
         requires { ord < length self.now.used }
         ensures { MatchOption result (NoneUsed self.now.used (ord + 1) (length self.now.used))
             (IsNextUsed self.now.used (ord + 1)) }

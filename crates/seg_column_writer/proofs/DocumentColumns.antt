@@ -8,29 +8,23 @@ use Rattle.std.proofs.lemmas.Bool.{false≢true, or_from, true≢false}
 use Rattle.std.proofs.lemmas.Bool.Decides.{Decides-eqb}
 use Rattle.std.proofs.lemmas.List.Folds.{list_any-append}
 use Rattle.std.proofs.Math.Bool.{and-false}
+use Rattle.seg_column_format.proofs.Exports.{Rows}
 use Rattle.seg_common.proofs.TabulatedMaps.{IsComplete, IsCovered, any_same, first_false, same_table, second_false}
 use Rattle.seg_common.specs.TabulatedMaps.{is_among, tabulated}
 use Rattle.seg_common.specs.declared.column_type.ColumnType.{ColumnType}
 use Rattle.seg_common.specs.declared.column_type.ColumnType.TheVariants as types
-use Rattle.seg_model.proofs.Exports.{column_cmp_total, values_at-none}
-use Rattle.seg_model.specs.Columns.{ColumnKey, ColumnValue, FastValue, column_at, column_cmp, columns_from, columns_of, fits_i64, if_there, is_declared, is_filled, is_mixed, is_not_negative, is_number, is_type, number_type, rows_of, type_place, value_keys, values_at, without_values}
+use Rattle.seg_model.proofs.Exports.{column_cmp_total, values_at-none, columns_apart}
+use Rattle.seg_model.specs.Columns.{ColumnKey, FastValue, column_at, column_cmp, columns_from, columns_of, fits_i64, if_there, is_declared, is_filled, is_mixed, is_not_negative, is_number, is_type, number_type, rows_of, type_place, value_keys, values_at, without_values}
 use Rattle.seg_column_writer.specs.DocumentRows.{AreArranged, arranged, sorts_at, with_rows}
 use Rattle.seg_column_writer.specs.ValueKinds.{kind_of}
 use Rattle.seg_column_writer.specs.RecordedColumns.{all_types, declared_in, keys_in, keys_with, recorded_columns, rows_at, rows_in}
 use Rattle.seg_column_writer.specs.ColumnRecords.{ColumnRecord, is_named}
 use Rattle.seg_column_writer.proofs.DocumentRows.{declared_rows, row_with_rows, rows_added, rows_are, rows_split, sorts_rows, values_of_row}
-use Rattle.seg_column_writer.proofs.RecordedKeys.{key_eq, no_rows}
+use Rattle.seg_column_writer.proofs.RecordedKeys.{key_eq, no_rows, not_filled}
 use Rattle.seg_column_writer.proofs.RowOrderedColumns.{named_path}
-use Rattle.seg_column_writer.proofs.WholeFiles.{all_fail, apart_keys}
-
-abbrev Rows : Type 0
-Rows = List (List ColumnValue)
+use Rattle.seg_column_writer.proofs.WholeFiles.{all_fail}
 
 -- ---- keys at which nothing is
-
-unfilled-without_values : (rows : Rows) → list_any is_filled (without_values rows) ≡ false
-unfilled-without_values [] = refl
-unfilled-without_values (r ∷ rows) = unfilled-without_values rows
 
 no_column : (declared : List ColumnKey) (k : ColumnKey) (rows : Rows) → is_declared declared k ≡ false
     → list_any is_filled rows ≡ false → column_at declared k rows ≡ None
@@ -41,7 +35,7 @@ no_column declared k rows undeclared empty =
   where
     by : (b : Bool) → list_any is_filled (cond b rows (without_values rows)) ≡ false
     by true = empty
-    by false = unfilled-without_values rows
+    by false = not_filled rows
 
 all_fit : (rows : Rows) → list_any is_filled rows ≡ false → list_all (list_all fits_i64) rows ≡ true
 all_fit [] empty = refl
@@ -82,13 +76,13 @@ module _ (declared : List ColumnKey) where
     not_there q none =
         nothing q (second_false (is_among column_cmp declared q) (is_among column_cmp ks q) (outside q none))
 
-    complete : IsComplete column_cmp_total apart_keys (λ k. column_at declared k (at k)) (declared ++ ks)
+    complete : IsComplete column_cmp_total columns_apart (λ k. column_at declared k (at k)) (declared ++ ks)
     complete = record {
       outside = λ q none. no_column declared q (at q)
           (first_false (is_among column_cmp declared q) (is_among column_cmp ks q) (outside q none)) (not_there q none);
     }
 
-    covered : IsCovered apart_keys (λ k. is_mixed declared k (at k)) (declared ++ ks)
+    covered : IsCovered columns_apart (λ k. is_mixed declared k (at k)) (declared ++ ks)
     covered = record { outside = λ q none. unmixed declared q (at q) (not_there q none) }
 
   pub same_columns : (at to : ColumnKey → Rows) (ks ms : List ColumnKey) → IsNothingElse at ks → IsNothingElse to ms
@@ -99,13 +93,13 @@ module _ (declared : List ColumnKey) where
     where
       mixed : list_any (λ k. is_mixed declared k (at k)) (declared ++ ks)
           ≡ list_any (λ k. is_mixed declared k (to k)) (declared ++ ms)
-      mixed = any_same apart_keys (λ k. is_mixed declared k (at k)) (declared ++ ks) (declared ++ ms) (covered at ks na)
+      mixed = any_same columns_apart (λ k. is_mixed declared k (at k)) (declared ++ ks) (declared ++ ms) (covered at ks na)
           (record { outside = λ q none. ap (is_mixed declared q) (same q) ∙ (covered to ms nt).outside q none })
           ∙ ap (λ f. list_any f (declared ++ ms)) (λ i k. is_mixed declared k (same k i))
 
       table : tabulated {R = column_cmp} (λ k. column_at declared k (at k)) (declared ++ ks)
           ≡ tabulated (λ k. column_at declared k (to k)) (declared ++ ms)
-      table = same_table column_cmp_total apart_keys (λ k. column_at declared k (at k)) (λ k. column_at declared k (to k))
+      table = same_table column_cmp_total columns_apart (λ k. column_at declared k (at k)) (λ k. column_at declared k (to k))
           (declared ++ ks) (declared ++ ms) (complete at ks na) (complete to ms nt)
           (λ q. ap (column_at declared q) (same q))
 

@@ -133,21 +133,21 @@ module _ (at row : ℕ) (value : ColumnValue) where
             subst (λ (i : ℕ). values_of_row at (changed_at change i (c ∷ cs)) key ≡ values_of_row at (c ∷ cs) key ++ more) s
             (later c cs (changed_at change (place_of cs path kind) cs) is (rest there))
 
-    behind : (cs : List ColumnRecord) → values_of_row at (cs ++ new_column path kind ∷ []) key ≡ values_of_row at cs key
-    behind [] = by (is_named key.path (kind_of key.type) (new_column path kind))
+    following : (cs : List ColumnRecord) → values_of_row at (cs ++ new_column path kind ∷ []) key ≡ values_of_row at cs key
+    following [] = by (is_named key.path (kind_of key.type) (new_column path kind))
       where
         by : (b : Bool) → cond b (row_of at (new_column path kind).recording) [] ≡ []
         by true = refl
         by false = refl
-    behind (c ∷ cs) =
-        ap (λ (l : List ColumnValue). cond (is_named key.path (kind_of key.type) c) (row_of at c.recording) l) (behind cs)
+    following (c ∷ cs) =
+        ap (λ (l : List ColumnValue). cond (is_named key.path (kind_of key.type) c) (row_of at c.recording) l) (following cs)
 
     with_one : (cs : List ColumnRecord) → values_of_row at (with_column cs path kind) key ≡ values_of_row at cs key
     with_one cs = by (list_any (is_named path kind) cs)
       where
         by : (b : Bool) → values_of_row at (cond b cs (cs ++ new_column path kind ∷ [])) key ≡ values_of_row at cs key
         by true = refl
-        by false = behind cs
+        by false = following cs
 
     pub row_recorded : (cs : List ColumnRecord)
         → values_of_row at (with_recorded path kind row value cs) key ≡ values_of_row at cs key ++ more
@@ -290,13 +290,13 @@ none_before at key row (d ∷ ds) lt =
     other = grind (arith, nat_tests, lt)
 
 module _ {X : Type 0} (g : List ColumnValue → X) (key : ColumnKey) where
-  behind_first : (row : ℕ) (d : List FastValue) (ds : List (List FastValue)) (low count : ℕ) → row < low
+  after_first : (row : ℕ) (d : List FastValue) (ds : List (List FastValue)) (low count : ℕ) → row < low
       → map (λ (at : ℕ). g (rows_added at key row (d ∷ ds))) (range_with_len low count)
       ≡ map (λ (at : ℕ). g (rows_added at key (row + 1) ds)) (range_with_len low count)
-  behind_first row d ds low zero lt = refl
-  behind_first row d ds low (suc count) lt =
+  after_first row d ds low zero lt = refl
+  after_first row d ds low (suc count) lt =
       λ j. g (cond (other j) (values_at key d) [] ++ rows_added low key (row + 1) ds)
-      ∷ behind_first row d ds (low + 1) count (omega (arith, lt)) j
+      ∷ after_first row d ds (low + 1) count (omega (arith, lt)) j
     where
       other : (row == low) ≡ false
       other = grind (arith, nat_tests, lt)
@@ -305,7 +305,7 @@ module _ {X : Type 0} (g : List ColumnValue → X) (key : ColumnKey) where
       → map (λ (at : ℕ). g (rows_added at key row ds)) (range_with_len row (length ds)) ≡ map (λ d. g (values_at key d)) ds
   rows_are row [] = refl
   rows_are row (d ∷ ds) =
-      (λ j. g (first j) ∷ behind_first row d ds (row + 1) (length ds) (omega arith) j)
+      (λ j. g (first j) ∷ after_first row d ds (row + 1) (length ds) (omega arith) j)
       ∙ ap (λ (l : List X). g (values_at key d) ∷ l) (rows_are (row + 1) ds)
     where
       itself : (row == row) ≡ true
@@ -317,11 +317,11 @@ module _ {X : Type 0} (g : List ColumnValue → X) (key : ColumnKey) where
 
 -- ---- what stays
 
-declared_behind : (path : List ℕ) (kind : ValueKind) (cs : List ColumnRecord)
+declared_after : (path : List ℕ) (kind : ValueKind) (cs : List ColumnRecord)
     → declared_in (cs ++ new_column path kind ∷ []) ≡ declared_in cs
-declared_behind path kind [] = refl
-declared_behind path kind (c ∷ cs) =
-    ap (λ (l : List ColumnKey). column_named c.path c.recording.declared ++ l) (declared_behind path kind cs)
+declared_after path kind [] = refl
+declared_after path kind (c ∷ cs) =
+    ap (λ (l : List ColumnKey). column_named c.path c.recording.declared ++ l) (declared_after path kind cs)
 
 declared_changed : (row : ℕ) (value : ColumnValue) (i : ℕ) (cs : List ColumnRecord)
     → declared_in (changed_at (with_value row value) i cs) ≡ declared_in cs
@@ -337,7 +337,7 @@ declared_recorded path kind row value cs =
   where
     by : (b : Bool) → declared_in (cond b cs (cs ++ new_column path kind ∷ [])) ≡ declared_in cs
     by true = refl
-    by false = declared_behind path kind cs
+    by false = declared_after path kind cs
 
 declared_values : (row : ℕ) (vs : List FastValue) (cs : List ColumnRecord)
     → declared_in (with_values row vs cs) ≡ declared_in cs
@@ -352,15 +352,15 @@ declared_rows row [] cs = refl
 declared_rows row (d ∷ ds) cs = declared_rows (row + 1) ds (with_values row d cs) ∙ declared_values row d cs
 
 module _ (key : ColumnKey) where
-  sorts_behind : (path : List ℕ) (kind : ValueKind) (cs : List ColumnRecord)
+  sorts_after : (path : List ℕ) (kind : ValueKind) (cs : List ColumnRecord)
       → sorts_at (cs ++ new_column path kind ∷ []) key ≡ sorts_at cs key
-  sorts_behind path kind [] = by (is_named key.path (kind_of key.type) (new_column path kind))
+  sorts_after path kind [] = by (is_named key.path (kind_of key.type) (new_column path kind))
     where
       by : (b : Bool) → cond b false false ≡ false
       by true = refl
       by false = refl
-  sorts_behind path kind (c ∷ cs) =
-      ap (λ (b : Bool). cond (is_named key.path (kind_of key.type) c) c.recording.sorts b) (sorts_behind path kind cs)
+  sorts_after path kind (c ∷ cs) =
+      ap (λ (b : Bool). cond (is_named key.path (kind_of key.type) c) c.recording.sorts b) (sorts_after path kind cs)
 
   sorts_changed : (row : ℕ) (value : ColumnValue) (i : ℕ) (cs : List ColumnRecord)
       → sorts_at (changed_at (with_value row value) i cs) key ≡ sorts_at cs key
@@ -376,7 +376,7 @@ module _ (key : ColumnKey) where
     where
       by : (b : Bool) → sorts_at (cond b cs (cs ++ new_column path kind ∷ [])) key ≡ sorts_at cs key
       by true = refl
-      by false = sorts_behind path kind cs
+      by false = sorts_after path kind cs
 
   sorts_values : (row : ℕ) (vs : List FastValue) (cs : List ColumnRecord) → sorts_at (with_values row vs cs) key ≡ sorts_at cs key
   sorts_values row [] cs = refl

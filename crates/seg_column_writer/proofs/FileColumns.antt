@@ -11,7 +11,7 @@ use Rattle.seg_column_file.specs.ColumnFiles.{ColumnFile, IsColumnFile, NamedCol
 use Rattle.seg_column_format.specs.FileBytes.{AreColumns, AreInOrder, IsWritten, WrittenColumn, data_bytes, entries_bytes, entry_bytes, file_bytes, footer_bytes, read_column, table_bytes}
 use Rattle.seg_column_writer.specs.FiledColumns.{AddsEntry, AreFiled, FiledColumn, IsFiled, written}
 use Rattle.seg_column_format.specs.ModelColumns.{column_key, column_rows}
-use Rattle.seg_column_writer.specs.PathKinds.{PathKind}
+use Rattle.seg_column_writer.specs.NamedColumns.{PathKind}
 use Rattle.seg_column_writer.specs.ColumnRecords.{Recording}
 use Rattle.seg_column_writer.specs.TypedColumns.{AreTyped, IsFileOf, IsTyped, entry_at, in_table, path_in}
 use Rattle.seg_column_writer.specs.declared.typed_column.TypedColumn.{TypedColumn}

@@ -6,6 +6,7 @@ use Rattle.std.specs.List.{AllByRecursion}
 use Rattle.std.specs.Ordering.{is_gt}
 use Rattle.std.proofs.lemmas.Bool.{false≢true}
 use Rattle.std.proofs.lemmas.Bool.Decides.{nat_tests}
+use Rattle.std.specs.Option.{option_or}
 use Rattle.seg_common.specs.MappableValues.{is_bit, lowered, raised}
 use Rattle.seg_common.specs.MappableLaws.{lowered-raised}
 use Rattle.seg_common.specs.declared.column_type.ColumnType.{ColumnType}
@@ -16,7 +17,7 @@ use Rattle.seg_column_writer.specs.EncodedColumns.{AddsColumn, AddsValues, IsCol
 use Rattle.seg_column_format.specs.RowNumbers.{eight_bytes}
 use Rattle.seg_column_writer.specs.ValueKinds.{kind_of}
 use Rattle.seg_column_writer.specs.ColumnRecords.{Recording, RowedValue}
-use Rattle.seg_column_writer.specs.RecordedColumns.{option_or, type_of_values, value_cmp}
+use Rattle.seg_column_writer.specs.RecordedColumns.{type_of_values, value_cmp}
 use Rattle.seg_column_format.specs.ValuesByRow.{Rise, rows_from}
 use Rattle.seg_column_writer.specs.RowValues.{integer_of, value_of}
 use Rattle.seg_column_writer.specs.SoundColumns.{AreSound, Fits, has_terms, rowed}
@@ -45,6 +46,14 @@ recorded kind declared sorts terms values = record {
   sorts = sorts;
   values = map (rowed kind terms) values;
 }
+
+-- a column of the kind of its type
+pub of_kind : (kind : ValueKind) (declared : Option ColumnType) (sorts : Bool) (terms : List (List ℕ))
+    (values : List RowValue) (count : ℕ) (old new : List ℕ) (type : ColumnType) → kind ≡ kind_of type
+    → AddsColumn (recorded (kind_of type) declared sorts terms values) type count old new
+    → AddsColumn (recorded kind declared sorts terms values) type count old new
+of_kind kind declared sorts terms values count old new type is adds =
+    subst (λ (k : ValueKind). AddsColumn (recorded k declared sorts terms values) type count old new) (sym is) adds
 
 module _ (declared : Option ColumnType) (terms : List (List ℕ)) (sorts : Bool) (values : List RowValue)
     (rise : Rise (λ (v : RowValue). v.row) 0 values) (count : ℕ)
@@ -149,33 +158,27 @@ module _ (declared : Option ColumnType) (terms : List (List ℕ)) (sorts : Bool)
 module _ (kind : ValueKind) (declared : Option ColumnType) (signed unsigned : Bool) (values : List RowValue)
     (terms : List (List ℕ)) (sound : AreSound kind declared signed unsigned values terms) (sorts : Bool) (count : ℕ)
     (below : AllByRecursion (λ (v : RowValue). v.row < count) values) (old new : List ℕ) where
-  of_kind : (type : ColumnType) → kind ≡ kind_of type
-      → AddsColumn (recorded (kind_of type) declared sorts terms values) type count old new
-      → AddsColumn (recorded kind declared sorts terms values) type count old new
-  of_kind type is adds =
-      subst (λ (k : ValueKind). AddsColumn (recorded k declared sorts terms values) type count old new) (sym is) adds
-
   pub images_column : (type : ColumnType)
       → option_or declared (type_of_values kind (map (λ (v : RowedValue). v.value) (map (rowed kind terms) values)))
       ≡ Some type → has_terms (kind_of type) ≡ false
       → AddsValues eight_bytes sorts (map (imaged type) values) count old new
       → AddsColumn (recorded kind declared sorts terms values) type count old new
   images_column types.I64 typed others a =
-      of_kind types.I64 (kind_is kind declared signed unsigned values terms sound types.I64 typed)
+      of_kind kind declared sorts terms values count old new types.I64 (kind_is kind declared signed unsigned values terms sound types.I64 typed)
       (signed_column declared terms sorts values sound.rise count below old new a
       (each_of_type kind declared signed unsigned values terms sound types.I64 typed))
   images_column types.U64 typed others a =
-      of_kind types.U64 (kind_is kind declared signed unsigned values terms sound types.U64 typed)
+      of_kind kind declared sorts terms values count old new types.U64 (kind_is kind declared signed unsigned values terms sound types.U64 typed)
       (unsigned_column declared terms sorts values sound.rise count below old new a
       (each_of_type kind declared signed unsigned values terms sound types.U64 typed))
   images_column types.Bytes typed others a = absurd (false≢true (sym others))
   images_column types.Str typed others a = absurd (false≢true (sym others))
   images_column types.Bool typed others a =
       let is : kind ≡ Boolean = kind_is kind declared signed unsigned values terms sound types.Bool typed in
-      of_kind types.Bool is
+      of_kind kind declared sorts terms values count old new types.Bool is
       (truths_column declared terms sorts values sound.rise count below old new a
       (subst (λ (k : ValueKind). AllByRecursion (Fits k (length terms)) values) is sound.fit))
   images_column types.IpAddr typed others a = absurd (false≢true (sym others))
   images_column types.DateTime typed others a =
-      of_kind types.DateTime (kind_is kind declared signed unsigned values terms sound types.DateTime typed)
+      of_kind kind declared sorts terms values count old new types.DateTime (kind_is kind declared signed unsigned values terms sound types.DateTime typed)
       (dates_column declared terms sorts values sound.rise count below old new a)

@@ -7,17 +7,18 @@ use Rattle.std.specs.Str.{bytes_eq}
 use Rattle.std.proofs.lemmas.Bool.{false≢true, and_parts, or_right}
 use Rattle.std.proofs.lemmas.Bool.Decides.{Decides-eqb}
 use Rattle.std.proofs.lemmas.List.Folds.{list_any-append}
+use Rattle.std.specs.Option.{option_or}
 use Rattle.seg_common.specs.TabulatedMaps.{is_among, tabulated}
 use Rattle.seg_common.specs.declared.column_type.ColumnType.{ColumnType}
 use Rattle.seg_common.specs.declared.column_type.ColumnType.TheVariants as types
 use Rattle.seg_model.specs.Columns.{ColumnKey, ColumnValue, column_at, column_cmp, column_named, free_number_type, is_declared, is_mixed, is_type}
-use Rattle.seg_column_format.proofs.Exports.{same_column}
+use Rattle.seg_column_format.proofs.Exports.{same_column, Rows}
 use Rattle.seg_column_writer.specs.ValueKinds.{kind_of, kind_place}
-use Rattle.seg_column_writer.specs.RecordedColumns.{all_types, declared_in, keys_in, keys_with, lacks_type, option_or, recorded_columns, rows_at, rows_in, type_of_values}
+use Rattle.seg_column_writer.specs.RecordedColumns.{all_types, declared_in, keys_in, keys_with, lacks_type, recorded_columns, rows_at, rows_in, type_of_values}
 use Rattle.seg_column_writer.specs.ColumnRecords.{ColumnRecord, Recording, is_named}
 use Rattle.seg_column_writer.specs.declared.value_kind.ValueKind.{ValueKind}
 use Rattle.seg_column_writer.specs.declared.value_kind.ValueKind.TheVariants.{Number, Bytes, Str, Bool as Boolean, IpAddr, DateTime}
-use Rattle.seg_column_writer.proofs.RecordedKeys.{AreApart, AreOfKind, NoneNamed, declared_nowhere, declared_skip, key_eq, keyed, same_kind, type_of_rows}
+use Rattle.seg_column_writer.proofs.RecordedKeys.{AreApart, AreOfKind, NoneNamed, declared_nowhere, declared_skip, key_eq, keyed, same_kind, type_of_rows, type_in}
 use Rattle.seg_column_writer.proofs.WholeFiles.{key_is}
 
 abbrev values_of : Recording → List ColumnValue
@@ -53,13 +54,6 @@ record MixedAt (count : ℕ) (cs : List ColumnRecord) : Type 0 where
   pub mixed : is_mixed (declared_in cs) (keyed path types.I64) (rows_at count cs (keyed path types.I64)) ≡ true
   pub among : is_among column_cmp (keys_in cs) (keyed path types.I64) ≡ true
 
-abbrev Rows : Type 0
-Rows = List (List ColumnValue)
-
-abbrev type_at : Bool → Bool → Rows → Option ColumnType
-type_at signed unsigned rows =
-    if signed then Some types.I64 else (if unsigned then Some types.U64 else free_number_type rows)
-
 abbrev has_no_type : Option ColumnType → Bool
 has_no_type o = not (is_type types.I64 o || is_type types.U64 o)
 
@@ -74,7 +68,7 @@ module _ (count : ℕ) (c : ColumnRecord) (cs : List ColumnRecord) (of : AreOfKi
     path = c.path;
     there = ap (λ (b : Bool). b || list_any (is_named c.path Number) cs) here;
     mixed =
-        (λ j. has_no_type (type_at (undeclared types.I64 refl j) (undeclared types.U64 refl j)
+        (λ j. has_no_type (type_in (undeclared types.I64 refl j) (undeclared types.U64 refl j)
         (cond (here j) (rows_in count c.recording) (rest_of types.I64))))
         ∙ ap has_no_type none;
     among = ap (λ (b : Bool). b || list_any (key_is (keyed c.path types.I64))
@@ -124,7 +118,7 @@ module _ (count : ℕ) (c : ColumnRecord) (cs : List ColumnRecord) (of : AreOfKi
         path = m.path;
         there = ap (λ (b : Bool). b || list_any (is_named m.path Number) cs) e ∙ m.there;
         mixed =
-            (λ j. has_no_type (type_at (declared_skip m.path types.I64 c of.0 e (declared_in cs) j)
+            (λ j. has_no_type (type_in (declared_skip m.path types.I64 c of.0 e (declared_in cs) j)
             (declared_skip m.path types.U64 c of.0 e (declared_in cs) j)
             (cond (e j) (rows_in count c.recording) (rows_at count cs (keyed m.path types.I64))))) ∙ m.mixed;
         among =

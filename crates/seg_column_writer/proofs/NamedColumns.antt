@@ -5,8 +5,7 @@ use Rattle.std.specs.List.{list_any, position_or_len}
 use Rattle.std.specs.Str.{bytes_eq}
 use Rattle.std.proofs.lemmas.List.Sums.{position_or_len_is}
 use Rattle.seg_column_writer.specs.ValueKinds.{kind_place}
-use Rattle.seg_column_writer.specs.NamedColumns.{AreNamed, IsChanged, IsPlaced, IsSound, column_in, named, records_in, usage_of, without_value}
-use Rattle.seg_column_writer.specs.PathKinds.{PathKind, name_eq}
+use Rattle.seg_column_writer.specs.NamedColumns.{AreNamed, IsChanged, IsPlaced, IsSound, PathKind, column_in, name_eq, named, records_in, usage_of, without_value}
 use Rattle.seg_column_writer.specs.ColumnRecords.{ColumnRecord, Recording, changed_at, is_named, place_of, value_count, with_column}
 use Rattle.seg_column_writer.specs.RecordingRules.{At}
 use Rattle.seg_column_writer.specs.declared.known_columns.KnownColumns.{KnownColumns}
@@ -15,11 +14,11 @@ use Rattle.seg_column_format.proofs.TermNumbers.{fails_at}
 
 module _ (path : List ℕ) (kind : ValueKind) where
   abbrev name : PathKind
-  name = record { kind = kind_place kind; path = path }
+  name = record { head = kind_place kind; bytes = path }
 
-  one_named : (n : PathKind) (r : Recording) → n.kind ≡ kind_place r.kind
-      → name_eq name n ≡ is_named path kind (record { path = n.path; recording = r })
-  one_named n r e = ap (λ (m : ℕ). nat_eq (kind_place kind) m && bytes_eq path n.path) e
+  one_named : (n : PathKind) (r : Recording) → n.head ≡ kind_place r.kind
+      → name_eq name n ≡ is_named path kind (record { path = n.bytes; recording = r })
+  one_named n r e = ap (λ (m : ℕ). nat_eq (kind_place kind) m && bytes_eq path n.bytes) e
 
   pub any_named : (names : List PathKind) (rs : List Recording) → AreNamed names rs
       → list_any (name_eq name) names ≡ list_any (is_named path kind) (named names rs)
@@ -50,7 +49,7 @@ module _ (path : List ℕ) (kind : ValueKind) where
   one_more [] (r ∷ rs) are = absurd are
   one_more (n ∷ names) [] are = absurd are
   one_more (n ∷ names) (r ∷ rs) are =
-      ap (λ (l : List ColumnRecord). record { path = n.path; recording = r } ∷ l) (one_more names rs are.1)
+      ap (λ (l : List ColumnRecord). record { path = n.bytes; recording = r } ∷ l) (one_more names rs are.1)
 
   module _ (old new : KnownColumns) (are : AreNamed old.names.keys old.columns.items) (is : IsPlaced name kind old new) where
     pub placed_named : IsUtf8 path → AreNamed new.names.keys new.columns.items
@@ -115,7 +114,7 @@ module _ (change : Recording → Recording) (same : (r : Recording) → (change 
   seen_changed (n ∷ names) [] i are lt = absurd are
   seen_changed (n ∷ names) (x ∷ rs) zero are lt = refl
   seen_changed (n ∷ names) (x ∷ rs) (suc i) are lt =
-      ap (λ (l : List ColumnRecord). record { path = n.path; recording = x } ∷ l)
+      ap (λ (l : List ColumnRecord). record { path = n.bytes; recording = x } ∷ l)
       (seen_changed names rs i are.1 (omega (arith, lt)))
 
   module _ (i : ℕ) (old new : KnownColumns) (are : AreNamed old.names.keys old.columns.items)
@@ -166,7 +165,7 @@ IsCounted known usage = IsSound known × (usage ≡ usage_of (records_in known))
 
 -- a column of a name, without a value where it is new
 pub placed_counted : (path : List ℕ) (kind : ValueKind) (old new : KnownColumns) (usage : ℕ) → IsCounted old usage
-    → IsPlaced (record { kind = kind_place kind; path = path }) kind old new → IsUtf8 path → IsCounted new usage
+    → IsPlaced (record { head = kind_place kind; bytes = path }) kind old new → IsUtf8 path → IsCounted new usage
 placed_counted path kind old new usage is placed utf8 = (
   placed_named path kind old new is.0 placed utf8,
   is.1 ∙ ap (λ (n : ℕ). min (2 ^ 64 - 1) (16 * n))
@@ -174,14 +173,14 @@ placed_counted path kind old new usage is placed utf8 = (
 )
 
 pub placed_now : (path : List ℕ) (kind : ValueKind) (old new : KnownColumns) (cs : List ColumnRecord) → IsSound old
-    → records_in old ≡ cs → IsPlaced (record { kind = kind_place kind; path = path }) kind old new
+    → records_in old ≡ cs → IsPlaced (record { head = kind_place kind; bytes = path }) kind old new
     → records_in new ≡ with_column cs path kind
 placed_now path kind old new cs sound view placed =
     placed_seen path kind old new sound placed ∙ ap (λ (ds : List ColumnRecord). with_column ds path kind) view
 
 pub place_now : (path : List ℕ) (kind : ValueKind) (old : KnownColumns) (cs : List ColumnRecord) (place : ℕ)
     → IsSound old → records_in old ≡ cs
-    → place ≡ position_or_len (name_eq (record { kind = kind_place kind; path = path })) old.names.keys
+    → place ≡ position_or_len (name_eq (record { head = kind_place kind; bytes = path })) old.names.keys
     → place ≡ place_of cs path kind
 place_now path kind old cs place sound view is =
     is ∙ same_place path kind old.names.keys old.columns.items sound

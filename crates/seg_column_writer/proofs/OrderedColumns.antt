@@ -15,15 +15,15 @@ use Rattle.std.proofs.lemmas.List.Elements.{All-from_recursion, recursion_from_A
 use Rattle.std.proofs.lemmas.List.Sorted.{All-permutation, IsPermutation-map, IsPermutation-refl}
 use Rattle.std.proofs.lemmas.Map.Keys.{IsDistinct-IsPermutation}
 use Rattle.std.proofs.lemmas.Map.Text.{is_eq-slice_cmp}
+use Rattle.seg_column_format.proofs.Exports.{Rows}
 use Rattle.seg_common.specs.declared.column_type.ColumnType.{ColumnType}
 use Rattle.seg_common.specs.declared.column_type.ColumnType.TheVariants as types
 use Rattle.seg_column_file.specs.ColumnTable.{are_apart}
 use Rattle.seg_columns.specs.declared.error.ColumnError.TheVariants.{Mixed, OutOfMemory}
-use Rattle.seg_model.specs.Columns.{ColumnKey, ColumnValue, column_cmp, type_place}
-use Rattle.seg_column_format.specs.FileBytes.{AreInOrder, code_of, may_stand_behind}
+use Rattle.seg_model.specs.Columns.{ColumnKey, column_cmp, type_place}
+use Rattle.seg_column_format.specs.FileBytes.{AreInOrder, code_of, may_stand_after}
 use Rattle.seg_column_writer.specs.ValueKinds.{kind_of, kind_place}
-use Rattle.seg_column_writer.specs.NamedColumns.{AreNamed, IsSound, column_in, named, records_in}
-use Rattle.seg_column_writer.specs.PathKinds.{PathKind, name_eq}
+use Rattle.seg_column_writer.specs.NamedColumns.{AreNamed, IsSound, PathKind, column_in, name_eq, named, records_in}
 use Rattle.seg_column_writer.specs.RecordedColumns.{IsRecorded, column_type_of, entries_in, entry_of, is_there, lacks_type, recorded_columns, rows_in, typed_entry}
 use Rattle.seg_column_writer.specs.ColumnRecords.{ColumnRecord, Recording, RowedValue}
 use Rattle.seg_column_writer.specs.TypedColumns.{AreReady, AreTyped, IsFileOf, IsRecordedFile, IsTyped, IsWithin, entry_at, in_table, key_at, path_in, refusal_of, typed_at, typed_from, written_type}
@@ -35,19 +35,16 @@ use Rattle.seg_column_writer.proofs.MixedNumbers.{AreFree, undefined}
 use Rattle.seg_column_writer.proofs.WholeFiles.{names_distinct, recorded_is, same_name, same_name-sym}
 use Rattle.seg_column_writer.proofs.DocumentRows.{below_type}
 
-abbrev Rows : Type 0
-Rows = List (List ColumnValue)
-
 -- ---- names
 
-none_like : (n : PathKind) (r : Recording) → n.kind ≡ kind_place r.kind → (names : List PathKind) (rs : List Recording)
+none_like : (n : PathKind) (r : Recording) → n.head ≡ kind_place r.kind → (names : List PathKind) (rs : List Recording)
     → AreNamed names rs → AllByRecursion (λ m. name_eq n m ≡ false) names
-    → NoneNamed n.path r.kind (named names rs)
+    → NoneNamed n.bytes r.kind (named names rs)
 none_like n r is [] [] are none = tt
 none_like n r is [] (s ∷ rs) are none = absurd are
 none_like n r is (m ∷ names) [] are none = absurd are
 none_like n r is (m ∷ names) (s ∷ rs) are none = (
-  (λ j. nat_eq (sym is j) (sym are.0.kind j) && bytes_eq n.path m.path) ∙ none.0,
+  (λ j. nat_eq (sym is j) (sym are.0.kind j) && bytes_eq n.bytes m.bytes) ∙ none.0,
   none_like n r is names rs are.1 none.1,
 )
 
@@ -86,7 +83,7 @@ named_good count [] rs each within typed = tt
 named_good count (n ∷ names) [] each within typed = tt
 named_good count (n ∷ names) (r ∷ rs) each within typed =
     let both = or_parts (lacks_type r) (list_any lacks_type rs) typed in (
-      is_good count (record { path = n.path; recording = r }) each.0.kind each.0.rise (within_each count r within.0)
+      is_good count (record { path = n.bytes; recording = r }) each.0.kind each.0.rise (within_each count r within.0)
           (typed_is (column_type_of r) both.0),
       named_good count names rs each.1 within.1 both.1,
     )
@@ -115,7 +112,7 @@ shifted p q k (n ∷ names) [] are = absurd are
 shifted p q k (n ∷ names) (r ∷ rs) are = (are.0, are.1, shifted p q (suc k) names rs are.2)
 
 abbrev name_in : List PathKind → ℕ → PathKind
-name_in names place = get_or names place (record { kind = 0; path = [] })
+name_in names place = get_or names place (record { head = 0; bytes = [] })
 
 all_places : (names : List PathKind) (rs : List Recording) → AreNamed names rs
     → Places (name_in names) (column_in rs) 0 names rs
@@ -127,17 +124,17 @@ all_places (n ∷ names) (r ∷ rs) are =
 
 module _ (count : ℕ) (p : ℕ → PathKind) (q : ℕ → Recording) where
   abbrev entry : TypedColumn → ColumnKey × Rows
-  entry t = (record { path = (p t.place).path; type = t.column_type }, rows_in count (q t.place))
+  entry t = (record { path = (p t.place).bytes; type = t.column_type }, rows_in count (q t.place))
 
   one_entry : (k : ℕ) (n : PathKind) (r : Recording) → p k ≡ n → q k ≡ r
-      → map entry (typed_at k (written_type r)) ≡ entry_of count (record { path = n.path; recording = r })
+      → map entry (typed_at k (written_type r)) ≡ entry_of count (record { path = n.bytes; recording = r })
   one_entry k n r named is = by (is_there r) (column_type_of r)
     where
       by : (b : Bool) (o : Option ColumnType) → map entry (typed_at k (cond b o None))
-          ≡ cond b (typed_entry count (record { path = n.path; recording = r }) o) []
+          ≡ cond b (typed_entry count (record { path = n.bytes; recording = r }) o) []
       by false o = refl
       by true None = refl
-      by true (Some t) = λ j. (record { path = (named j).path; type = t }, rows_in count (is j)) ∷ []
+      by true (Some t) = λ j. (record { path = (named j).bytes; type = t }, rows_in count (is j)) ∷ []
 
   entries_are : (k : ℕ) (names : List PathKind) (rs : List Recording) → Places p q k names rs
       → map entry (typed_from k rs) ≡ entries_in count (named names rs)
@@ -178,7 +175,7 @@ module _ (count : ℕ) (all : List PathKind) (columns : List Recording) where
         record {
           place = omega (arith, many);
           type = ap column_type_of places.1 ∙ some_type (is_there r) (column_type_of r) t e;
-          utf8 = subst (λ (m : PathKind). IsUtf8 m.path) (sym places.0) are.0.utf8;
+          utf8 = subst (λ (m : PathKind). IsUtf8 m.bytes) (sym places.0) are.0.utf8;
           within = subst (IsWithin count) (sym places.1) within.0;
         },
         rest,
@@ -210,7 +207,7 @@ tail_sorted below x xs up k d le lt =
 module _ (names : List PathKind) where
   stands : (t u : TypedColumn) → is_lt (column_cmp (key_at names u) (key_at names t)) ≡ false
       → same_name (key_at names t) (key_at names u) ≡ false
-      → may_stand_behind (in_table names t) (in_table names u) ≡ true
+      → may_stand_after (in_table names t) (in_table names u) ≡ true
   stands t u up other = by (slice_cmp nat_cmp (path_in names t.place) (path_in names u.place)) refl
     where
       back : slice_cmp nat_cmp (path_in names u.place) (path_in names t.place)

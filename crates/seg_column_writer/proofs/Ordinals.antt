@@ -64,13 +64,13 @@ module _ (terms : List (List ℕ)) (numbers ordinals : List ℕ) (is : IsOrder t
   unfolding IsStrictlySortedBy
   from_sorted [] sorted a b lt below = absurd (omega (arith, below))
   from_sorted (t ∷ ts) sorted zero zero lt below = absurd (omega (arith, lt))
-  from_sorted (t ∷ ts) sorted zero (suc b) lt below = behind ts b sorted.0 (omega (arith, below))
+  from_sorted (t ∷ ts) sorted zero (suc b) lt below = following ts b sorted.0 (omega (arith, below))
     where
-      behind : (us : List (List ℕ)) (b : ℕ) → AllByRecursion (λ u. slice_cmp nat_cmp t u ≡ Less) us → b < length us
+      following : (us : List (List ℕ)) (b : ℕ) → AllByRecursion (λ u. slice_cmp nat_cmp t u ≡ Less) us → b < length us
           → slice_cmp nat_cmp t (get_or us b []) ≡ Less
-      behind [] b each lt = absurd (omega (arith, lt))
-      behind (u ∷ us) zero each lt = each.0
-      behind (u ∷ us) (suc b) each lt = behind us b each.1 (omega (arith, lt))
+      following [] b each lt = absurd (omega (arith, lt))
+      following (u ∷ us) zero each lt = each.0
+      following (u ∷ us) (suc b) each lt = following us b each.1 (omega (arith, lt))
   from_sorted (t ∷ ts) sorted (suc a) zero lt below = absurd (omega (arith, lt))
   from_sorted (t ∷ ts) sorted (suc a) (suc b) lt below =
       from_sorted ts sorted.1 a b (omega (arith, lt)) (omega (arith, below))

@@ -13,16 +13,18 @@ use Rattle.std.proofs.lemmas.Bool.{false≢true, and_parts}
 use Rattle.std.proofs.lemmas.Bool.Decides.{Decides-eqb}
 use Rattle.std.proofs.lemmas.List.Folds.{list_any-append}
 use Rattle.std.proofs.lemmas.Option.{same_Some}
+use Rattle.std.specs.Option.{option_or}
+use Rattle.seg_column_format.specs.SchemaColumns.{has_values}
 use Rattle.seg_common.specs.declared.column_type.ColumnType.{ColumnType}
 use Rattle.seg_common.specs.declared.column_type.ColumnType.TheVariants as types
 use Rattle.seg_model.specs.Columns.{ColumnKey, ColumnValue, column_at, column_cmp, column_named, fits_i64, free_number_type, if_there, is_declared, is_filled, is_mixed, is_not_negative, is_type, type_place, without_values}
 use Rattle.seg_column_format.specs.FileBytes.{code_of}
 use Rattle.seg_column_writer.specs.ValueKinds.{kind_of, kind_place}
 use Rattle.seg_column_writer.specs.ColumnRecords.{ColumnRecord, is_named}
-use Rattle.seg_column_writer.specs.RecordedColumns.{IsOfKind, column_type_of, declared_in, entries_in, entry_of, has_values, is_there, option_or, rows_at, rows_in, type_of_values, typed_entry}
+use Rattle.seg_column_writer.specs.RecordedColumns.{IsOfKind, column_type_of, declared_in, entries_in, entry_of, is_there, rows_at, rows_in, type_of_values, typed_entry}
 use Rattle.seg_column_writer.specs.declared.value_kind.ValueKind.{ValueKind}
 use Rattle.seg_column_writer.specs.declared.value_kind.ValueKind.TheVariants.{Number, Bytes, Str, Bool as Boolean, IpAddr, DateTime}
-use Rattle.seg_column_format.proofs.Exports.{same_type}
+use Rattle.seg_column_format.proofs.Exports.{same_type, Rows}
 
 -- ---- keys
 
@@ -118,10 +120,7 @@ pub record IsGood (count : ℕ) (c : ColumnRecord) : Type 0 where
       ≡ type_of_rows c.recording.kind (rows_in count c.recording)
   pub typed : is_some (column_type_of c.recording) ≡ true
 
-abbrev Rows : Type 0
-Rows = List (List ColumnValue)
-
-abbrev Entries : Type 0
+abbrev pub Entries : Type 0
 Entries = List (ColumnKey × Rows)
 
 -- ---- a column that isn't named
@@ -225,7 +224,7 @@ same_at here signed unsigned there first second types.Bool rows e f g = ap (λ b
 same_at here signed unsigned there first second types.IpAddr rows e f g = ap (λ b. if_there b rows) e
 same_at here signed unsigned there first second types.DateTime rows e f g = ap (λ b. if_there b rows) e
 
-not_filled : (rows : Rows) → list_any is_filled (without_values rows) ≡ false
+pub not_filled : (rows : Rows) → list_any is_filled (without_values rows) ≡ false
 not_filled [] = refl
 not_filled (r ∷ rows) = not_filled rows
 
@@ -394,18 +393,18 @@ module _ (count : ℕ) (path : List ℕ) (type : ColumnType) (c : ColumnRecord) 
 only_one : (type t : ColumnType) → (kind_of type ≡ Number → ⊥) → kind_of t ≡ kind_of type → t ≡ type
 only_one type t other e = same_type t type (places t type (λ n. other (sym e ∙ n)) other (ap kind_place e))
   where
-    place_behind : (u : ColumnType) → (kind_of u ≡ Number → ⊥) → type_place u ≡ suc (kind_place (kind_of u))
-    place_behind types.I64 other = absurd (other refl)
-    place_behind types.U64 other = absurd (other refl)
-    place_behind types.Bytes other = refl
-    place_behind types.Str other = refl
-    place_behind types.Bool other = refl
-    place_behind types.IpAddr other = refl
-    place_behind types.DateTime other = refl
+    place_after : (u : ColumnType) → (kind_of u ≡ Number → ⊥) → type_place u ≡ suc (kind_place (kind_of u))
+    place_after types.I64 other = absurd (other refl)
+    place_after types.U64 other = absurd (other refl)
+    place_after types.Bytes other = refl
+    place_after types.Str other = refl
+    place_after types.Bool other = refl
+    place_after types.IpAddr other = refl
+    place_after types.DateTime other = refl
 
     places : (u v : ColumnType) → (kind_of u ≡ Number → ⊥) → (kind_of v ≡ Number → ⊥)
         → kind_place (kind_of u) ≡ kind_place (kind_of v) → type_place u ≡ type_place v
-    places u v a b e = place_behind u a ∙ ap suc e ∙ sym (place_behind v b)
+    places u v a b e = place_after u a ∙ ap suc e ∙ sym (place_after v b)
 
 module _ (count : ℕ) (path : List ℕ) (type : ColumnType) (c : ColumnRecord) (good : IsGood count c) (es : Entries)
     (none : find column_cmp (keyed path type) es ≡ None) (is : bytes_eq path c.path ≡ true)
@@ -559,7 +558,7 @@ nothing_fits : (low count : ℕ)
 nothing_fits low zero = refl
 nothing_fits low (suc count) = nothing_fits (low + 1) count
 
-abbrev type_in : Bool → Bool → Rows → Option ColumnType
+abbrev pub type_in : Bool → Bool → Rows → Option ColumnType
 type_in signed unsigned rows =
     if signed then Some types.I64 else (if unsigned then Some types.U64 else free_number_type rows)
 

@@ -120,10 +120,10 @@ module _ (path : List ℕ) (kind : ValueKind) (P Q : Recording → Type 0)
           subst (λ (i : ℕ). At Q i (c ∷ cs)) s (rest any)
 
   -- after them
-  behind : (cs : List ColumnRecord) → list_any test cs ≡ false
+  following : (cs : List ColumnRecord) → list_any test cs ≡ false
       → At Q (place_of cs path kind) (cs ++ record { path = path; recording = without_value kind } ∷ [])
-  behind [] none = new
-  behind (c ∷ cs) none = by (test c) none (behind cs)
+  following [] none = new
+  following (c ∷ cs) none = by (test c) none (following cs)
     where
       by : (b : Bool) → (b || list_any test cs) ≡ false
           → (list_any test cs ≡ false
@@ -142,7 +142,7 @@ module _ (path : List ℕ) (kind : ValueKind) (P Q : Recording → Type 0)
       by : (b : Bool) → list_any test cs ≡ b
           → At Q (place_of cs path kind) (cond b cs (cs ++ record { path = path; recording = without_value kind } ∷ []))
       by true e = found cs each e
-      by false e = behind cs e
+      by false e = following cs e
 
 none_reached : (P : RowedValue → Type 0) → All P []
 none_reached P k d lt = absurd (omega (arith, lt))

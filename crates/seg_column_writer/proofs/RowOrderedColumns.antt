@@ -49,10 +49,10 @@ module _ (path : List ℕ) (kind : ValueKind) where
       by true any rest = refl
       by false any rest = ap (λ (n : ℕ). 1 + n) (rest any)
 
-  pub place_behind : (x : ColumnRecord) → test x ≡ true → (cs : List ColumnRecord)
+  pub place_after : (x : ColumnRecord) → test x ≡ true → (cs : List ColumnRecord)
       → position_or_len test (cs ++ x ∷ []) ≡ position_or_len test cs
-  place_behind x is [] = ap (λ (b : Bool). cond (not b) 1 0) is
-  place_behind x is (c ∷ cs) = ap (λ (n : ℕ). cond (not (test c)) (1 + n) 0) (place_behind x is cs)
+  place_after x is [] = ap (λ (b : Bool). cond (not b) 1 0) is
+  place_after x is (c ∷ cs) = ap (λ (n : ℕ). cond (not (test c)) (1 + n) 0) (place_after x is cs)
 
   module _ (row : ℕ) (value : ColumnValue) where
     any_changed : (i : ℕ) (cs : List ColumnRecord)
@@ -79,7 +79,7 @@ module _ (path : List ℕ) (kind : ValueKind) where
     where
       by : (b : Bool) → position_or_len test (cond b cs (cs ++ new_column path kind ∷ [])) ≡ position_or_len test cs
       by true = refl
-      by false = place_behind (new_column path kind) (named_itself path kind) cs
+      by false = place_after (new_column path kind) (named_itself path kind) cs
 
   pub there_already : (cs : List ColumnRecord) → has_column path kind cs ≡ true → with_column cs path kind ≡ cs
   there_already cs e = ap (λ (b : Bool). cond b cs (cs ++ new_column path kind ∷ [])) e
@@ -181,10 +181,10 @@ module _ (declared : Declared) where
     none : All (λ (v : RowedValue). v.row < row + 1) []
     none k d lt = absurd (omega (arith, lt))
 
-    behind : declared path kind ≡ None → (cs : List ColumnRecord) → AreBelow declared (row + 1) cs
+    following : declared path kind ≡ None → (cs : List ColumnRecord) → AreBelow declared (row + 1) cs
         → AreBelow declared (row + 1) (cs ++ new_column path kind ∷ [])
-    behind free [] below = (record { within = none; declared_is = sym free }, tt)
-    behind free (c ∷ cs) below = (below.0, behind free cs below.1)
+    following free [] below = (record { within = none; declared_is = sym free }, tt)
+    following free (c ∷ cs) below = (below.0, following free cs below.1)
 
     -- a column may come where none is declared
     pub below_with : (cs : List ColumnRecord) → (has_column path kind cs ≡ true) ⊎ (declared path kind ≡ None)
@@ -194,7 +194,7 @@ module _ (declared : Declared) where
       where
         by : (b : Bool) → AreBelow declared (row + 1) (cond b cs (cs ++ new_column path kind ∷ []))
         by true = below
-        by false = behind free cs below
+        by false = following free cs below
 
     pub recorded : (cs : List ColumnRecord) → (has_column path kind cs ≡ true) ⊎ (declared path kind ≡ None)
         → AreBelow declared (row + 1) cs → AreBelow declared (row + 1) (with_recorded path kind row value cs)
@@ -210,21 +210,21 @@ module _ (path : List ℕ) (kind : ValueKind) where
       let parts = or_parts (is_named path kind c) (list_any (is_named path kind) cs) none in
       ((λ is. absurd (false≢true (sym parts.0 ∙ is))), may_change_new P cs parts.1)
 
-  changed_behind : (change : Recording → Recording) (cs : List ColumnRecord) → has_column path kind cs ≡ false
+  changed_after : (change : Recording → Recording) (cs : List ColumnRecord) → has_column path kind cs ≡ false
       → changed_at change (place_of cs path kind) (cs ++ new_column path kind ∷ [])
       ≡ cs ++ record { path = path; recording = change (without_value kind) } ∷ []
-  changed_behind change [] none = refl
-  changed_behind change (c ∷ cs) none =
+  changed_after change [] none = refl
+  changed_after change (c ∷ cs) none =
       let parts = or_parts (is_named path kind c) (list_any (is_named path kind) cs) none in
       let s : 1 + place_of cs path kind ≡ suc (place_of cs path kind) = omega arith in
       ap (λ (b : Bool). changed_at change (cond (not b) (1 + place_of cs path kind) 0) (c ∷ (cs ++ new_column path kind ∷ [])))
       parts.0
       ∙ ap (λ (i : ℕ). changed_at change i (c ∷ (cs ++ new_column path kind ∷ []))) s
-      ∙ ap (λ (l : List ColumnRecord). c ∷ l) (changed_behind change cs parts.1)
+      ∙ ap (λ (l : List ColumnRecord). c ∷ l) (changed_after change cs parts.1)
 
   -- it comes after all others
   pub with_change_new : (change : Recording → Recording) (cs : List ColumnRecord) → has_column path kind cs ≡ false
       → with_change path kind change cs ≡ cs ++ record { path = path; recording = change (without_value kind) } ∷ []
   with_change_new change cs none =
       ap (λ (b : Bool). changed_at change (place_of cs path kind) (cond b cs (cs ++ new_column path kind ∷ []))) none
-      ∙ changed_behind change cs none
+      ∙ changed_after change cs none

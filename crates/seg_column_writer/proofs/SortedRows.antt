@@ -27,14 +27,14 @@ module _ {V : Type 0} (row number : V → ℕ) where
       → AreOrdered vs
   from_places [] all = tt
   from_places (v ∷ vs) all = (
-    behind vs (λ j d lt. all 0 (suc j) d (omega arith) (omega (arith, lt))),
+    following vs (λ j d lt. all 0 (suc j) d (omega arith) (omega (arith, lt))),
     from_places vs (λ i j d lt below. all (suc i) (suc j) d (omega (arith, lt)) (omega (arith, below))),
   )
     where
-      behind : (ws : List V) → ((j : ℕ) (d : V) → j < length ws → MayPrecede v (get_or ws j d))
+      following : (ws : List V) → ((j : ℕ) (d : V) → j < length ws → MayPrecede v (get_or ws j d))
           → AllByRecursion (MayPrecede v) ws
-      behind [] each = tt
-      behind (w ∷ ws) each = (each 0 w (omega arith), behind ws (λ j d lt. each (suc j) d (omega (arith, lt))))
+      following [] each = tt
+      following (w ∷ ws) each = (each 0 w (omega arith), following ws (λ j d lt. each (suc j) d (omega (arith, lt))))
 
   rise_from : (low : ℕ) (vs : List V) → AreOrdered vs → AllByRecursion (λ v. low ≤ row v) vs → Rise row low vs
   rise_from low [] ordered all = tt

@@ -17,7 +17,6 @@ use Rattle.seg_columns.specs.TermColumns.{UsesEach}
 use Rattle.seg_column_format.specs.ColumnBytes.{column_bytes, dictionary_bytes, term_column_bytes, total}
 use Rattle.seg_column_writer.specs.EncodedColumns.{AddsAddresses, AddsColumn, AddsTexts, AddsValues, IsArranged, IsColumnBytes, ranked}
 use Rattle.seg_column_format.specs.RowNumbers.{eight_bytes, term_bytes}
-use Rattle.seg_column_writer.specs.ValueKinds.{kind_of}
 use Rattle.seg_column_writer.specs.RecordedColumns.{value_cmp}
 use Rattle.seg_column_format.specs.ValuesByRow.{Rise, rows_from}
 use Rattle.seg_column_writer.specs.RowValues.{value_of}
@@ -31,7 +30,7 @@ use Rattle.seg_column_writer.proofs.AddedRows.{bytes_added, few, numbers_below, 
 use Rattle.seg_column_writer.proofs.ArrangedValues.{all_of_rows, number, row, still_all, whole}
 use Rattle.seg_column_writer.proofs.ColumnParts.{column_bytes_are}
 use Rattle.seg_column_writer.proofs.EncodedColumns.{AreOctets, Encodes, addresses_encoded, bytes_encoded, bytes_map, seen_value, texts_encoded}
-use Rattle.seg_column_writer.proofs.ImageColumns.{recorded}
+use Rattle.seg_column_writer.proofs.ImageColumns.{recorded, of_kind}
 use Rattle.seg_column_writer.proofs.Ordinals.{many, ordinal_below, ordinal_of_place, ordinal_term, terms_rising}
 use Rattle.seg_column_format.proofs.SortedTerms.{below_many}
 
@@ -177,12 +176,6 @@ module _ (kind : ValueKind) (declared : Option ColumnType) (signed unsigned : Bo
   terms_of : (other : ValueKind) → kind ≡ other → AllByRecursion (IsTermOf other) terms
   terms_of other is = subst (λ (k : ValueKind). AllByRecursion (IsTermOf k) terms) is sound.terms_are
 
-  of_kind : (type : ColumnType) → kind ≡ kind_of type
-      → AddsColumn (recorded (kind_of type) declared sorts terms values) type count old new
-      → AddsColumn (recorded kind declared sorts terms values) type count old new
-  of_kind type is adds =
-      subst (λ (k : ValueKind). AddsColumn (recorded k declared sorts terms values) type count old new) (sym is) adds
-
   module _ (a : AddsTexts terms sorts values count old new) where
     abbrev in_order : List (List ℕ)
     in_order = terms_at terms a.numbers
@@ -218,7 +211,7 @@ module _ (kind : ValueKind) (declared : Option ColumnType) (signed unsigned : Bo
     pub bytes_column : kind ≡ Bytes → AddsColumn (recorded kind declared sorts terms values) types.Bytes count old new
     bytes_column is =
         let fits = fits_of Bytes is in
-        of_kind types.Bytes is (record {
+        of_kind kind declared sorts terms values count old new types.Bytes is (record {
           bytes = term_column_bytes ords in_order;
           are = seen_terms terms a.numbers a.ordinals a.order values fits sound.rise count below sorts eight_bytes old
               a.between a.ranks Bytes declared types.Bytes (term_column_bytes ords in_order) bytes_value (λ n. refl)
@@ -230,7 +223,7 @@ module _ (kind : ValueKind) (declared : Option ColumnType) (signed unsigned : Bo
     pub texts_column : kind ≡ Str → AddsColumn (recorded kind declared sorts terms values) types.Str count old new
     texts_column is =
         let fits = fits_of Str is in
-        of_kind types.Str is (record {
+        of_kind kind declared sorts terms values count old new types.Str is (record {
           bytes = term_column_bytes ords in_order;
           are = seen_terms terms a.numbers a.ordinals a.order values fits sound.rise count below sorts eight_bytes old
               a.between a.ranks Str declared types.Str (term_column_bytes ords in_order) text_value (λ n. refl)
@@ -272,7 +265,7 @@ module _ (kind : ValueKind) (declared : Option ColumnType) (signed unsigned : Bo
         (all_sorted terms a.numbers a.ordinals a.order AreOctets (terms_of IpAddr is))
         (rows_below terms a.numbers a.ordinals a.order values fits sound.rise count below sorts (term_bytes listed) old
         new a.addresses) in
-        of_kind types.IpAddr is (record {
+        of_kind kind declared sorts terms values count old new types.IpAddr is (record {
           bytes = column_bytes (term_bytes listed) address_rows;
           are = seen_terms terms a.numbers a.ordinals a.order values fits sound.rise count below sorts
               (term_bytes listed) old new a.addresses IpAddr declared types.IpAddr

@@ -6,11 +6,12 @@ use Rattle.std.proofs.lemmas.Bool.{false≢true}
 use Rattle.std.proofs.lemmas.Bool.Decides.{nat_tests}
 use Rattle.std.specs.Cmp.{first_so, second_so}
 use Rattle.std.proofs.lemmas.Option.{same_Some}
+use Rattle.std.specs.Option.{option_or}
 use Rattle.seg_common.specs.declared.column_type.ColumnType.{ColumnType}
 use Rattle.seg_common.specs.declared.column_type.ColumnType.TheVariants as types
 use Rattle.seg_model.specs.Columns.{ColumnValue, fits_i64, is_not_negative}
 use Rattle.seg_column_writer.specs.ValueKinds.{kind_of}
-use Rattle.seg_column_writer.specs.RecordedColumns.{option_or, type_of_values}
+use Rattle.seg_column_writer.specs.RecordedColumns.{type_of_values}
 use Rattle.seg_column_writer.specs.ColumnRecords.{RowedValue}
 use Rattle.seg_column_writer.specs.RowValues.{fits_signed, fits_unsigned}
 use Rattle.seg_column_writer.specs.SoundColumns.{AreSound, IsDeclared, MarksTell, rowed}

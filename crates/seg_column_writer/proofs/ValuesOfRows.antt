@@ -8,9 +8,10 @@ use Rattle.std.proofs.lemmas.List.{length-map}
 use Rattle.std.proofs.lemmas.List.FromFn.{get_or-map-range_with_len, length-range_with_len}
 use Rattle.std.proofs.lemmas.List.Folds.{list_any_at}
 use Rattle.std.proofs.Math.Bool.{and_assoc}
+use Rattle.seg_column_format.specs.SchemaColumns.{has_values}
 use Rattle.seg_model.specs.Columns.{ColumnValue, fits_i64, free_number_type, is_filled, is_not_negative}
 use Rattle.seg_column_writer.specs.ColumnRecords.{ColumnRecord, Recording, RowedValue}
-use Rattle.seg_column_writer.specs.RecordedColumns.{IsOfKind, column_type_of, has_values, in_order, put_in_order, row_values, rows_in, type_of_values, value_cmp}
+use Rattle.seg_column_writer.specs.RecordedColumns.{IsOfKind, column_type_of, in_order, put_in_order, row_values, rows_in, type_of_values, value_cmp}
 use Rattle.seg_column_format.specs.ValuesByRow.{Rise, of_row, rows_from}
 use Rattle.seg_column_writer.specs.declared.value_kind.ValueKind.{ValueKind}
 use Rattle.seg_column_writer.specs.declared.value_kind.ValueKind.TheVariants.{Number, Bytes, Str, Bool as Boolean, IpAddr, DateTime}

@@ -6,8 +6,8 @@ use Rattle.std.specs.Cmp.Lexicographic.{bytes_decides}
 use Rattle.std.specs.List.{AllByRecursion, IsDistinct, list_any}
 use Rattle.std.specs.List.Sorted.{IsPermutation}
 use Rattle.std.specs.Cmp.{eq_by_cmp_equiv}
-use Rattle.std.specs.Ordering.{eq_by_cmp, is_eq}
-use Rattle.std.specs.FinMap.{find, from_entries, get-from_entries, IsAntisymmetric}
+use Rattle.std.specs.Ordering.{eq_by_cmp}
+use Rattle.std.specs.FinMap.{find, from_entries, get-from_entries}
 use Rattle.std.specs.Map.{keys_of, lookup}
 use Rattle.std.proofs.lemmas.Bool.{false≢true}
 use Rattle.std.proofs.lemmas.Bool.Decides.{Decides-eqb}
@@ -22,23 +22,14 @@ use Rattle.seg_common.specs.TabulatedMaps.{is_among, tabulated}
 use Rattle.seg_common.proofs.TabulatedMaps.{IsComplete, first_false, second_false, table_from_gets}
 use Rattle.seg_common.specs.declared.column_type.ColumnType.TheVariants as types
 use Rattle.seg_common.proofs.Lists.{list_any-none}
-use Rattle.seg_model.specs.Columns.{ColumnKey, ColumnValue, column_at, column_cmp, is_mixed}
-use Rattle.seg_model.proofs.Exports.{column_cmp_total}
+use Rattle.seg_model.specs.Columns.{ColumnKey, column_at, column_cmp, is_mixed}
+use Rattle.seg_model.proofs.Exports.{column_cmp_total, columns_apart}
 use Rattle.seg_column_writer.specs.ValueKinds.{kind_of, kind_place}
 use Rattle.seg_column_writer.specs.ColumnRecords.{ColumnRecord}
 use Rattle.seg_column_writer.specs.RecordedColumns.{column_type_of, declared_in, entries_in, is_there, all_types, keys_in, keys_with, recorded_columns, rows_at, rows_in, typed_entry}
-use Rattle.seg_column_writer.proofs.RecordedKeys.{AreApart, AreOfKind, IsGood, NoneNamed, found_at, keyed, kinds_of, not_mixed, typed_kind}
+use Rattle.seg_column_writer.proofs.RecordedKeys.{AreApart, AreOfKind, IsGood, NoneNamed, found_at, keyed, kinds_of, not_mixed, typed_kind, Entries}
 use Rattle.seg_column_format.proofs.TermNumbers.{fails_at}
-use Rattle.seg_column_format.proofs.Exports.{same_column}
-
-pub apart_keys : IsAntisymmetric column_cmp
-apart_keys q k e = same_column q k (ap is_eq e)
-
-abbrev Rows : Type 0
-Rows = List (List ColumnValue)
-
-abbrev Entries : Type 0
-Entries = List (ColumnKey × Rows)
+use Rattle.seg_column_format.proofs.Exports.{same_column, Rows}
 
 abbrev pub key_is : ColumnKey → ColumnKey → Bool
 key_is = eq_by_cmp column_cmp
@@ -176,7 +167,7 @@ module _ (count : ℕ) (cs : List ColumnRecord) (good : AllByRecursion (IsGood c
   abbrev keys : List ColumnKey
   keys = declared_in cs ++ keys_in cs
 
-  complete : IsComplete column_cmp_total apart_keys here keys
+  complete : IsComplete column_cmp_total columns_apart here keys
   complete = record {
     outside = λ q none.
         sym (found_at count q.path q.type cs good apart)
@@ -197,7 +188,7 @@ module _ (count : ℕ) (cs : List ColumnRecord) (good : AllByRecursion (IsGood c
       (keys_of (entries_in count cs)) (keys_of es)
       (IsPermutation-map (λ (e : ColumnKey × Rows). e.0) (entries_in count cs) es moved) distinct in
       ap (λ b. cond b None (Some (tabulated here keys))) unmixed
-      ∙ ap Some (sym (table_from_gets column_cmp_total apart_keys here keys complete (from_entries es) (λ q.
+      ∙ ap Some (sym (table_from_gets column_cmp_total columns_apart here keys complete (from_entries es) (λ q.
       get-from_entries column_cmp_total es q ∙ find_is_lookup q es
       ∙ sym (lookup-permuted (entries_in count cs) es moved distinct still q)
       ∙ sym (find_is_lookup q (entries_in count cs)) ∙ found_at count q.path q.type cs good apart)))

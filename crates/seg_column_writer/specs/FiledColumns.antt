@@ -3,8 +3,7 @@ use Rattle.std.specs.Prelude.{◌≡◌, ℕ, List, ◌++◌, length, map}
 use Rattle.std.specs.List.{AllByRecursion}
 use Rattle.seg_column_writer.specs.EncodedColumns.{IsColumnBytes}
 use Rattle.seg_column_format.specs.FileBytes.{WrittenColumn, data_bytes, entries_bytes, entry_bytes}
-use Rattle.seg_column_writer.specs.NamedColumns.{column_in}
-use Rattle.seg_column_writer.specs.PathKinds.{PathKind}
+use Rattle.seg_column_writer.specs.NamedColumns.{PathKind, column_in}
 use Rattle.seg_column_writer.specs.ColumnRecords.{Recording}
 use Rattle.seg_column_writer.specs.TypedColumns.{path_in}
 use Rattle.seg_column_writer.specs.declared.typed_column.TypedColumn.{TypedColumn}

@@ -3,7 +3,6 @@ pub mod DocumentRows
 pub mod EncodedColumns
 pub mod FiledColumns
 pub mod NamedColumns
-pub mod PathKinds
 pub mod RecordedColumns
 pub mod RecordingRules
 pub mod RowOrderedColumns

@@ -1,23 +1,30 @@
 -- Columns so far, by their names.
-use Rattle.std.specs.Prelude.{◌≡◌, ℕ, ◌*◌, ◌^◌, ◌-◌, List, [], ◌∷◌, ◌++◌, get_or, set, false, None, if◌then◌else◌, min, IsUtf8}
+use Rattle.std.specs.Prelude.{◌≡◌, ℕ, ◌*◌, ◌^◌, ◌-◌, List, [], ◌∷◌, ◌++◌, Bool, get_or, set, false, nat_eq, None, if◌then◌else◌, min, IsUtf8}
 use Rattle.std.specs.List.{list_any}
+use Rattle.seg_column_format.specs.CompositeKeys.{Composite, key_eq}
 use Rattle.seg_column_writer.specs.ValueKinds.{kind_place}
-use Rattle.seg_column_writer.specs.PathKinds.{PathKind, name_eq}
 use Rattle.seg_column_writer.specs.ColumnRecords.{ColumnRecord, Recording, value_count}
 use Rattle.seg_column_writer.specs.declared.known_columns.KnownColumns.{KnownColumns}
 use Rattle.seg_column_writer.specs.declared.value_kind.ValueKind.{ValueKind}
 use Rattle.seg_column_writer.specs.declared.value_kind.ValueKind.TheVariants.{Number}
 
+-- the place of a kind, and a path
+abbrev pub PathKind : Type 0
+PathKind = Composite ℕ
+
+abbrev pub name_eq : PathKind → PathKind → Bool
+name_eq = key_eq nat_eq
+
 -- columns with their paths
 abbrev pub named : List PathKind → List Recording → List ColumnRecord
 named [] recordings = []
 named (n ∷ names) [] = []
-named (n ∷ names) (r ∷ recordings) = record { path = n.path; recording = r } ∷ named names recordings
+named (n ∷ names) (r ∷ recordings) = record { path = n.bytes; recording = r } ∷ named names recordings
 
 -- a name is that of a column: it tells the kind of its values, and has a text as path
 pub record IsName (n : PathKind) (r : Recording) : Type 0 where
-  pub kind : n.kind ≡ kind_place r.kind
-  pub utf8 : IsUtf8 n.path
+  pub kind : n.head ≡ kind_place r.kind
+  pub utf8 : IsUtf8 n.bytes
 
 -- a name for each column
 abbrev pub AreNamed : List PathKind → List Recording → Type 0

@@ -5,6 +5,8 @@ use Rattle.std.specs.Ordering.{nat_cmp, int_cmp, is_gt}
 use Rattle.std.specs.Cmp.Lexicographic.{slice_cmp}
 use Rattle.std.specs.declared.cmp.Ordering.{Ordering}
 use Rattle.std.specs.declared.cmp.Ordering.TheVariants.{Equal}
+use Rattle.std.specs.Option.{option_or}
+use Rattle.seg_column_format.specs.SchemaColumns.{has_values}
 use Rattle.seg_common.specs.declared.column_type.ColumnType.{ColumnType}
 use Rattle.seg_common.specs.declared.column_type.ColumnType.TheVariants as types
 use Rattle.seg_common.specs.MappableValues.{bit}
@@ -77,10 +79,6 @@ recorded_columns count columns = columns_from (declared_in columns) (rows_at cou
 
 -- ---- the column of a record
 
-abbrev pub has_values : {X : Type 0} → List X → Bool
-has_values [] = false
-has_values (x ∷ xs) = true
-
 -- a column is there where it is declared or has a value
 abbrev pub is_there : Recording → Bool
 is_there r = is_some r.declared || has_values r.values
@@ -93,11 +91,6 @@ type_of_values Str values = Some types.Str
 type_of_values Boolean values = Some types.Bool
 type_of_values IpAddr values = Some types.IpAddr
 type_of_values DateTime values = Some types.DateTime
-
--- an option, or another one in its place
-abbrev pub option_or : {X : Type 0} → Option X → Option X → Option X
-option_or None other = other
-option_or (Some x) other = Some x
 
 -- the declared type, or that of the values
 abbrev pub column_type_of : Recording → Option ColumnType

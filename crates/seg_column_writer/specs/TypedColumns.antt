@@ -7,16 +7,15 @@ use Rattle.seg_columns.specs.declared.error.ColumnError.TheVariants.{Mixed, OutO
 use Rattle.seg_common.specs.declared.column_type.ColumnType.{ColumnType}
 use Rattle.seg_model.specs.Columns.{ColumnKey, ColumnValue, Columns}
 use Rattle.seg_column_format.specs.FileBytes.{AreInOrder, WrittenColumn}
-use Rattle.seg_column_writer.specs.NamedColumns.{AreNamed, column_in}
+use Rattle.seg_column_writer.specs.NamedColumns.{AreNamed, PathKind, column_in, name_eq}
 use Rattle.seg_column_format.specs.ModelColumns.{column_key, column_rows, columns_in}
-use Rattle.seg_column_writer.specs.PathKinds.{PathKind, name_eq}
 use Rattle.seg_column_writer.specs.RecordedColumns.{IsRecorded, column_type_of, is_there, lacks_type, recorded_columns, rows_in}
 use Rattle.seg_column_writer.specs.ColumnRecords.{ColumnRecord, Recording}
 use Rattle.seg_column_writer.specs.declared.typed_column.TypedColumn.{TypedColumn}
 
 -- the path of the column at a place, or none
 abbrev pub path_in : List PathKind → ℕ → List ℕ
-path_in names place = (get_or names place (record { kind = 0; path = [] })).path
+path_in names place = (get_or names place (record { head = 0; bytes = [] })).bytes
 
 abbrev pub key_at : List PathKind → TypedColumn → ColumnKey
 key_at names t = record { path = path_in names t.place; type = t.column_type }

@@ -1,21 +1,22 @@
 //! The columns so far, each by its path and the kind of its values.
 ghost use Rattle.std.specs.Prelude.{◌≡◌, ◌<◌, [], false, length, OnOk, OnErr, IfOk, IfErr};
 ghost use Rattle.std.specs.List.{AllByRecursion, list_any, position_or_len};
+ghost use Rattle.seg_column_format.specs.CompositeKeys.{asked};
 ghost use Rattle.seg_column_writer.specs.ValueKinds.{kind_place};
-ghost use Rattle.seg_column_writer.specs.NamedColumns.{AreKept, IsChanged, IsPlaced, IsSound, column_in, named, records_in};
-ghost use Rattle.seg_column_writer.specs.PathKinds.{asked, name_eq};
+ghost use Rattle.seg_column_writer.specs.NamedColumns.{AreKept, IsChanged, IsPlaced, IsSound, column_in, name_eq, named, records_in};
 ghost use Rattle.seg_column_writer.specs.RecordedColumns.{recorded_columns};
 ghost use Rattle.seg_column_writer.specs.ColumnRecords.{with_type};
 ghost use Rattle.seg_column_writer.specs.RecordingRules.{CanDeclare, CanPush, CanPushTerm, pushed, pushed_term};
 ghost use Rattle.seg_column_writer.specs.TypedColumns.{AreReady, IsRecordedFile, IsWithin, refusal_of};
 
 use crate::column_file::write_file;
-use crate::column_name::{ColumnName, NameParts};
+use crate::column_name::ColumnName;
 use crate::recorded_column::RecordedColumn;
 use crate::row_value::RowValue;
 use crate::typed_column::{lack_types, sort_columns, typed_columns};
 use crate::value_kind::ValueKind;
 use indexmap::IndexSet;
+use seg_column_format::CompositeKeyParts;
 use seg_columns::ColumnError;
 use seg_common::ColumnType;
 use std::alloc::{AllocError, Global};
@@ -46,14 +47,14 @@ impl KnownColumns {
         kind: ValueKind,
     ) -> Result<usize, AllocError>
         ensures ok { OnOk result
-            (IsPlaced (record { kind = kind_place kind; path = path.now }) kind self.old self.new) }
+            (IsPlaced (record { head = kind_place kind; bytes = path.now }) kind self.old self.new) }
         ensures place { IfOk result (λ place. place
-            ≡ position_or_len (name_eq (record { kind = kind_place kind; path = path.now })) self.old.names.keys) }
+            ≡ position_or_len (name_eq (record { head = kind_place kind; bytes = path.now })) self.old.names.keys) }
         ensures err { OnErr result (AreKept self.old self.new) }
     {
-        let name = NameParts {
-            kind: kind.place(),
-            path,
+        let name = CompositeKeyParts {
+            head: kind.place(),
+            bytes: path,
         };
         let Some(place) = self.names.get_index_of(name) else {
             return self.add(alloc, name, kind);
@@ -65,7 +66,7 @@ impl KnownColumns {
     fn add(
         &mut self,
         alloc: Global,
-        name: NameParts<'_>,
+        name: CompositeKeyParts<'_, u8>,
         kind: ValueKind,
     ) -> Result<usize, AllocError>
         requires { list_any (name_eq (asked name)) self.old.names.keys ≡ false }

@@ -90,7 +90,7 @@ pub(crate) fn path_at(names: &[ColumnName], place: usize) -> &[u8]
     ensures { result.now ≡ path_in names.now place }
 {
     match names.get(place) {
-        Some(name) => name.path(),
+        Some(name) => name.bytes(),
         None => &[],
     }
 }

@@ -235,13 +235,13 @@ module _ (analyzer : Analyzer) (key : ColumnKey) (schema : Schema) (document : D
   IsBehind n es = (k : ℕ) (e : FieldEntry) → slice_get es k ≡ Some e → slice_get schema (n + k) ≡ Some e
 
   next : (n : ℕ) (e : FieldEntry) (es : Schema) → IsBehind n (e ∷ es) → IsBehind (n + 1) es
-  next n e es behind k x is =
-      let s : n + suc k ≡ n + 1 + k = omega arith in subst (λ (m : ℕ). slice_get schema m ≡ Some x) s (behind
+  next n e es after k x is =
+      let s : n + suc k ≡ n + 1 + k = omega arith in subst (λ (m : ℕ). slice_get schema m ≡ Some x) s (after
       (suc k) x is)
 
   first : (n : ℕ) (e : FieldEntry) (es : Schema) → IsBehind n (e ∷ es) → slice_get schema n ≡ Some e
-  first n e es behind =
-      let s : n + 0 ≡ n = omega arith in subst (λ (m : ℕ). slice_get schema m ≡ Some e) s (behind 0 e refl)
+  first n e es after =
+      let s : n + 0 ≡ n = omega arith in subst (λ (m : ℕ). slice_get schema m ≡ Some e) s (after 0 e refl)
 
   abbrev field_at : ℕ → FieldEntry → List ColumnValue
   field_at n e = values_at key (field_fast_values analyzer document (n, e))
@@ -259,12 +259,12 @@ module _ (analyzer : Analyzer) (key : ColumnKey) (schema : Schema) (document : D
 
   past : (n : ℕ) (es : Schema) → IsBehind n es → place < n
       → values_at key (flat_map (field_fast_values analyzer document) (enumerate_from n es)) ≡ []
-  past n [] behind lt = refl
-  past n (e ∷ es) behind lt =
+  past n [] after lt = refl
+  past n (e ∷ es) after lt =
       at-append key (field_fast_values analyzer document (n, e))
       (flat_map (field_fast_values analyzer document) (enumerate_from (n + 1) es))
-      ∙ (λ j. none_at n e (first n e es behind) (λ same. omega (arith, same, lt)) j
-      ++ past (n + 1) es (next n e es behind) (omega (arith, lt)) j)
+      ∙ (λ j. none_at n e (first n e es after) (λ same. omega (arith, same, lt)) j
+      ++ past (n + 1) es (next n e es after) (omega (arith, lt)) j)
 
   abbrev own_field : Option FieldEntry → List ColumnValue
   own_field None = []
@@ -273,18 +273,18 @@ module _ (analyzer : Analyzer) (key : ColumnKey) (schema : Schema) (document : D
   until : (m n : ℕ) (es : Schema) → IsBehind n es → n + m ≡ place
       → values_at key (flat_map (field_fast_values analyzer document) (enumerate_from n es)) ≡ own_field
       (slice_get es m)
-  until m n [] behind is = refl
-  until zero n (e ∷ es) behind is =
+  until m n [] after is = refl
+  until zero n (e ∷ es) after is =
       let same : n ≡ place = omega (arith, is) in
       at-append key (field_fast_values analyzer document (n, e))
       (flat_map (field_fast_values analyzer document) (enumerate_from (n + 1) es))
-      ∙ (λ j. field_at (same j) e ++ past (n + 1) es (next n e es behind) (omega (arith, is)) j)
+      ∙ (λ j. field_at (same j) e ++ past (n + 1) es (next n e es after) (omega (arith, is)) j)
       ∙ append-nil (field_at place e)
-  until (suc m) n (e ∷ es) behind is =
+  until (suc m) n (e ∷ es) after is =
       at-append key (field_fast_values analyzer document (n, e))
       (flat_map (field_fast_values analyzer document) (enumerate_from (n + 1) es))
-      ∙ (λ j. none_at n e (first n e es behind) (λ same. omega (arith, same, is)) j
-      ++ until m (n + 1) es (next n e es behind) (omega (arith, is)) j)
+      ∙ (λ j. none_at n e (first n e es after) (λ same. omega (arith, same, is)) j
+      ++ until m (n + 1) es (next n e es after) (omega (arith, is)) j)
 
   -- ---- pair by pair
 
@@ -344,10 +344,10 @@ module _ (analyzer : Analyzer) (key : ColumnKey) (schema : Schema) (document : D
           (and-false (nat_eq (kind_place (kind_of key.type)) (kind_place (kind_of t))))
 
   sorts_past : (n : ℕ) (es : Schema) → IsBehind n es → place < n → sorts_at (first_columns es) key ≡ false
-  sorts_past n [] behind lt = refl
-  sorts_past n (e ∷ es) behind lt =
-      sorts_elsewhere e (owner.others n e (first n e es behind) (λ same. omega (arith, same, lt))) (first_columns es)
-      ∙ sorts_past (n + 1) es (next n e es behind) (omega (arith, lt))
+  sorts_past n [] after lt = refl
+  sorts_past n (e ∷ es) after lt =
+      sorts_elsewhere e (owner.others n e (first n e es after) (λ same. omega (arith, same, lt))) (first_columns es)
+      ∙ sorts_past (n + 1) es (next n e es after) (omega (arith, lt))
 
   abbrev own_sorts : Option FieldEntry → Bool
   own_sorts None = false
@@ -355,20 +355,20 @@ module _ (analyzer : Analyzer) (key : ColumnKey) (schema : Schema) (document : D
 
   sorts_until : (m n : ℕ) (es : Schema) → IsBehind n es → n + m ≡ place
       → sorts_at (first_columns es) key ≡ own_sorts (slice_get es m)
-  sorts_until m n [] behind is = refl
-  sorts_until zero n (e ∷ es) behind is = by e.fast (declared_type e.kind)
+  sorts_until m n [] after is = refl
+  sorts_until zero n (e ∷ es) after is = by e.fast (declared_type e.kind)
     where
       rest : sorts_at (first_columns es) key ≡ false
-      rest = sorts_past (n + 1) es (next n e es behind) (omega (arith, is))
+      rest = sorts_past (n + 1) es (next n e es after) (omega (arith, is))
 
       by : (b : Bool) (o : Option ColumnType) → sorts_at (cond b (column_with e o) [] ++ first_columns es) key
           ≡ sorts_at (cond b (column_with e o) []) key
       by false o = rest
       by true None = rest
       by true (Some t) = ap (λ (x : Bool). cond (is_at key e.name (kind_of t)) (is_facet e.kind) x) rest
-  sorts_until (suc m) n (e ∷ es) behind is =
-      sorts_elsewhere e (owner.others n e (first n e es behind) (λ same. omega (arith, same, is))) (first_columns es)
-      ∙ sorts_until m (n + 1) es (next n e es behind) (omega (arith, is))
+  sorts_until (suc m) n (e ∷ es) after is =
+      sorts_elsewhere e (owner.others n e (first n e es after) (λ same. omega (arith, same, is))) (first_columns es)
+      ∙ sorts_until m (n + 1) es (next n e es after) (omega (arith, is))
 
   whole : IsBehind 0 schema
   whole k e is = let s : k ≡ 0 + k = omega arith in subst (λ (m : ℕ). slice_get schema m ≡ Some e) s is

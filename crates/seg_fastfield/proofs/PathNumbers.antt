@@ -1,21 +1,20 @@
 -- What is known of columns by the numbers of paths.
 use Rattle.std.proofs.Common.{◌≡◌, ℕ, ◌+◌, ◌<◌, ◌≤◌, ◌⊎◌, inl, inr, Bool, true, false, cond, List, [], ◌∷◌, ◌++◌, length, get_or, Option, None, Some, Result, Ok, Err, OnOk, OnErr, refl, sym, ap, subst, ◌∙◌, append_assoc, append-nil, arith}
-use Rattle.std.specs.Prelude.{max, map, not, IfOk, ◌==◌, ◌||◌}
-use Rattle.std.specs.List.{join_with_byte, list_any, position_or_len}
+use Rattle.std.specs.Prelude.{max, map, IfOk, ◌==◌}
+use Rattle.std.specs.List.{join_with_byte}
 use Rattle.std.proofs.lemmas.Bool.{cases_lt}
 use Rattle.std.proofs.lemmas.Bool.Decides.{Decides-eqb}
 use Rattle.std.proofs.lemmas.List.{get_or_append_left, get_or_past, length-append}
-use Rattle.std.proofs.lemmas.List.Folds.{list_any-append}
 use Rattle.seg_columns.specs.declared.error.ColumnError.{ColumnError}
 use Rattle.seg_common.specs.JsonPaths.{JsonPath, written_key}
 use Rattle.seg_model.specs.Columns.{ColumnValue}
-use Rattle.seg_column_writer.specs.ColumnRecords.{ColumnRecord, changed_at, is_named, place_of, with_column, with_value}
-use Rattle.seg_column_writer.specs.RowOrderedColumns.{AreThere, has_column}
+use Rattle.seg_column_writer.specs.ColumnRecords.{ColumnRecord, changed_at, place_of, with_column, with_value}
+use Rattle.seg_column_writer.specs.RowOrderedColumns.{AreThere}
 use Rattle.seg_column_writer.specs.RecordingRules.{AreKeptBut, At, CanTake, MayRecord, with_recorded}
 use Rattle.seg_column_writer.specs.declared.value_kind.ValueKind.{ValueKind}
 use Rattle.seg_column_writer.specs.declared.value_kind.ValueKind.TheVariants.{Number, Bytes, Str, Bool as Boolean, IpAddr, DateTime}
 use Rattle.seg_column_writer.specs.declared.writer.ColumnId.{ColumnId}
-use Rattle.seg_column_writer.proofs.Exports.{named_itself, new_column, takes_named, there_already, there_recorded, there_with}
+use Rattle.seg_column_writer.proofs.Exports.{takes_named, there_already, there_recorded, there_with, any_with, place_with}
 use Rattle.seg_paths.specs.Paths.{Extends, IsAbove, below}
 use Rattle.seg_values.specs.declared.schema.FieldEntry.{FieldEntry}
 use Rattle.seg_fastfield.specs.FastLeaves.{path_at}
@@ -221,12 +220,12 @@ join_more first (k ∷ ks) key =
     ∙ sym (append_assoc first (1 ∷ join_with_byte 1 (k ∷ ks)) (1 ∷ key))
 
 -- a key after those of a place
-pub key_behind : (entry : FieldEntry) (keys : List (List ℕ)) (path pushed : JsonPath) (key : List ℕ)
+pub key_after : (entry : FieldEntry) (keys : List (List ℕ)) (path pushed : JsonPath) (key : List ℕ)
     (number : Option ℕ) (paths : List (List ℕ)) → path ≡ path_at entry keys
     → pushed ≡ record { keys = path.keys ++ written_key path.expand_dots key ∷ []; expand_dots = path.expand_dots }
     → IsNumberOf paths number (join_with_byte 1 path.keys ++ 1 ∷ written_key entry.expand_dots key)
     → IsNumberOf paths number (join_with_byte 1 pushed.keys)
-key_behind entry keys path pushed key number paths is push =
+key_after entry keys path pushed key number paths is push =
     subst (IsNumberOf paths number)
     (sym (ap (λ (p : JsonPath). join_with_byte 1 p.keys) push
     ∙ (λ j. join_with_byte 1 ((is j).keys ++ written_key (is j).expand_dots key ∷ []))
@@ -271,36 +270,12 @@ held_there column path kind cs id is own =
     let here : IsColumnOf (Some id) path kind cs = subst (λ (o : Option ColumnId). IsColumnOf o path kind cs) is own in
     (here.1, sym (there_already path kind cs here.0))
 
-module _ (path : List ℕ) (kind : ValueKind) where
-  abbrev test : ColumnRecord → Bool
-  test = is_named path kind
-
-  there_now : (cs : List ColumnRecord) → has_column path kind (with_column cs path kind) ≡ true
-  there_now cs = by (list_any test cs) refl
-    where
-      by : (b : Bool) → list_any test cs ≡ b → list_any test (cond b cs (cs ++ new_column path kind ∷ [])) ≡ true
-      by true e = e
-      by false e = list_any-append test cs (new_column path kind ∷ [])
-          ∙ (λ j. e j || (named_itself path kind j || false))
-
-  place_behind : (cs : List ColumnRecord)
-      → position_or_len test (cs ++ new_column path kind ∷ []) ≡ position_or_len test cs
-  place_behind [] = ap (λ (b : Bool). cond (not b) 1 0) (named_itself path kind)
-  place_behind (c ∷ cs) = ap (λ (n : ℕ). cond (not (test c)) (1 + n) 0) (place_behind cs)
-
-  place_now : (cs : List ColumnRecord) → place_of (with_column cs path kind) path kind ≡ place_of cs path kind
-  place_now cs = by (list_any test cs)
-    where
-      by : (b : Bool) → position_or_len test (cond b cs (cs ++ new_column path kind ∷ [])) ≡ position_or_len test cs
-      by true = refl
-      by false = place_behind cs
-
 -- a column that was looked up
 module _ (path : List ℕ) (kind : ValueKind) (old mid : List ColumnRecord) (id : ColumnId)
     (found : id.place ≡ place_of old path kind) (made : mid ≡ with_column old path kind) where
   is_found : IsColumnOf (Some id) path kind mid
   is_found = subst (IsColumnOf (Some id) path kind) (sym made)
-      (there_now path kind old, found ∙ sym (place_now path kind old))
+      (any_with path kind old, found ∙ sym (place_with path kind old))
 
   -- it is kept by the number of its path
   pub held_found : (known last : PathColumns) (place : Option ℕ) → IsKnownAt last place path old

@@ -172,10 +172,10 @@ arranged_documents cs (r ∷ rs) (d ∷ ds) arranges =
 abbrev place_in : List ℕ → ValueKind → List ColumnRecord → ℕ
 place_in path kind cs = position_or_len (is_named path kind) cs
 
-behind : (change : Recording → Recording) (p count : ℕ) (c : ColumnRecord) (ds : List ColumnRecord)
+after : (change : Recording → Recording) (p count : ℕ) (c : ColumnRecord) (ds : List ColumnRecord)
     → value_count (changed_at change p ds) ≡ count + 1
     → value_count (changed_at change (1 + p) (c ∷ ds)) ≡ length c.recording.values + count + 1
-behind change p count c ds rest =
+after change p count c ds rest =
     let s : 1 + p ≡ suc p = omega arith in
     ap (λ (n : ℕ). value_count (changed_at change n (c ∷ ds))) s ∙ omega (arith, rest)
 
@@ -192,9 +192,9 @@ count_recorded path kind row value (c ∷ cs) =
         (cond (b || a) (c ∷ cs) (c ∷ cs ++ new_column path kind ∷ []))) ≡ value_count (c ∷ cs) + 1
     by true a rest =
         omega (arith, length-append c.recording.values (record { row = row; value = value } ∷ []))
-    by false true rest = behind (with_value row value) (place_in path kind cs) (value_count cs) c cs rest
+    by false true rest = after (with_value row value) (place_in path kind cs) (value_count cs) c cs rest
     by false false rest =
-        behind (with_value row value) (place_in path kind cs) (value_count cs) c (cs ++ new_column path kind ∷ []) rest
+        after (with_value row value) (place_in path kind cs) (value_count cs) c (cs ++ new_column path kind ∷ []) rest
 
 count_values : (row : ℕ) (vs : List FastValue) (cs : List ColumnRecord)
     → value_count (with_values row vs cs) ≡ value_count cs + length vs

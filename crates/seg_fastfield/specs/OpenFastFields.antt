@@ -1,5 +1,5 @@
 -- The columns of a segment, by the names of its fields.
-use Rattle.std.specs.Prelude.{ℕ, ◌^◌, ◌-◌, min, List, [], ◌∷◌, Bool, true, false, Option, Some, None, sum_by, nat_eq, if◌then◌else◌, option_map}
+use Rattle.std.specs.Prelude.{ℕ, ◌^◌, ◌-◌, min, List, [], Bool, true, false, Option, Some, None, sum_by, nat_eq, if◌then◌else◌, option_map}
 use Rattle.std.specs.List.{list_any}
 use Rattle.std.specs.Borrow.{Bor}
 use Rattle.seg_common.specs.declared.column_type.ColumnType.{ColumnType}
@@ -27,15 +27,6 @@ columns_below file None = []
 columns_below file (Some path) = stored_where (is_below path) file.columns
 
 -- ---- one of several columns
-
-abbrev pub or_first : {Y : Type 0} → Option Y → Option Y → Option Y
-or_first None other = other
-or_first (Some y) other = Some y
-
--- the first answer that there is
-abbrev pub first_of : {X Y : Type 0} → (X → Option Y) → List X → Option Y
-first_of f [] = None
-first_of f (x ∷ xs) = or_first (f x) (first_of f xs)
 
 abbrev pub is_same_type : ColumnType → ColumnType → Bool
 is_same_type type other = nat_eq (type_place type) (type_place other)

@@ -1,8 +1,9 @@
 //! The columns of a name, not opened yet.
 ghost use Rattle.std.specs.Prelude.{◌≡◌, option_map, string_bytes};
+ghost use Rattle.seg_model.specs.DocumentCheck.{first_of};
 ghost use Rattle.seg_columns.specs.DynamicColumns.{type_of};
 ghost use Rattle.seg_fastfield.specs.Answers.{Answers, AnswersBy};
-ghost use Rattle.seg_fastfield.specs.OpenFastFields.{bytes_in, columns_at, columns_below, first_of, of_type};
+ghost use Rattle.seg_fastfield.specs.OpenFastFields.{bytes_in, columns_at, columns_below, of_type};
 
 use crate::readers::FastFieldReaders;
 use seg_columns::DynamicColumnHandle;

@@ -1,8 +1,9 @@
 //! Columns as numbers, whatever their types are.
 ghost use Rattle.std.specs.Prelude.{◌≡◌, None, filter_map, IfOk};
+ghost use Rattle.seg_model.specs.DocumentCheck.{first_of};
 ghost use Rattle.seg_fastfield.specs.Answers.{Answers, AnswersBy};
 ghost use Rattle.seg_fastfield.specs.OpenFastFields as spec;
-ghost use Rattle.seg_fastfield.specs.OpenFastFields.{columns_at, first_of};
+ghost use Rattle.seg_fastfield.specs.OpenFastFields.{columns_at};
 
 use crate::readers::FastFieldReaders;
 use seg_columns::{Column, DynamicColumnHandle};

@@ -1,9 +1,10 @@
 //! Columns of one type.
 ghost use Rattle.std.specs.Prelude.{◌≡◌, map, option_map};
+ghost use Rattle.seg_model.specs.DocumentCheck.{first_of};
 ghost use Rattle.seg_columns.specs.Columns.{first_or};
 ghost use Rattle.seg_columns.specs.DynamicColumns.{u64_column, i64_column, bool_column, date_column, ip_column};
 ghost use Rattle.seg_fastfield.specs.Answers.{AnswersBy, Needs};
-ghost use Rattle.seg_fastfield.specs.OpenFastFields.{bytes_column, first_of, str_column};
+ghost use Rattle.seg_fastfield.specs.OpenFastFields.{bytes_column, str_column};
 
 use crate::readers::FastFieldReaders;
 use seg_column_file::HasAssociatedColumnType;

@@ -14,7 +14,7 @@ use Rattle.seg_common.proofs.Lists.{list_any-map}
 use Rattle.seg_common.proofs.TabulatedMaps.{IsComplete, same_key, table_from_gets}
 use Rattle.seg_common.specs.TabulatedMaps.{tabulated}
 use Rattle.seg_field_metadata.specs.MetadataEntries.{Entry, Key, Known, key_cmp, together}
-use Rattle.seg_field_metadata.specs.GroupedEntries.{grouped_behind}
+use Rattle.seg_field_metadata.specs.GroupedEntries.{grouped_after}
 use Rattle.seg_field_metadata.specs.MergedMetadata.{at_key, has_key, merged}
 use Rattle.seg_field_metadata.proofs.KeyOrder.{key_cmp_total, keys_apart}
 use Rattle.seg_field_metadata.proofs.EntrySums.{together-first, together-one}
@@ -64,18 +64,18 @@ abbrev pub merged_pair : Entry → Entry → Entry
 merged_pair p e = (p.0, together (p.1 ∷ e.1 ∷ []))
 
 above : (k : Key) (p : Entry) (es : List Entry) → key_cmp k p.0 ≡ Less → Rises p.0 es
-    → below_all key_cmp k (grouped_behind p es) ≡ true
+    → below_all key_cmp k (grouped_after p es) ≡ true
 above k p [] less h = and_from _ _ (ap is_lt less) refl
 above k p (e ∷ es) less h =
-    by_test (λ b. below_all key_cmp k (cond b (grouped_behind (merged_pair p e) es) (p ∷ grouped_behind e es)) ≡ true)
+    by_test (λ b. below_all key_cmp k (cond b (grouped_after (merged_pair p e) es) (p ∷ grouped_after e es)) ≡ true)
     (has_key p.0 e)
     (λ same. above k (merged_pair p e) es less (rises_from p.0 e.0 es (same_keys p.0 e.0 same) h.1))
     (λ other. and_from _ _ (ap is_lt less) (above k e es (still_below k p.0 e.0 less h.0) h.1))
 
-pub rising : (p : Entry) (es : List Entry) → Rises p.0 es → is_sorted key_cmp (grouped_behind p es) ≡ true
+pub rising : (p : Entry) (es : List Entry) → Rises p.0 es → is_sorted key_cmp (grouped_after p es) ≡ true
 rising p [] h = refl
 rising p (e ∷ es) h =
-    by_test (λ b. is_sorted key_cmp (cond b (grouped_behind (merged_pair p e) es) (p ∷ grouped_behind e es)) ≡ true)
+    by_test (λ b. is_sorted key_cmp (cond b (grouped_after (merged_pair p e) es) (p ∷ grouped_after e es)) ≡ true)
     (has_key p.0 e)
     (λ same. rising (merged_pair p e) es (rises_from p.0 e.0 es (same_keys p.0 e.0 same) h.1))
     (λ other. and_from _ _ (above p.0 e es (below p.0 e.0 h.0 other) h.1) (rising e es h.1))
@@ -116,22 +116,22 @@ at_key-alone q p es alone = by (has_key q p) refl
     by true e = ap Some (sym (together-one p.1)) ∙ ap (λ (l : List Entry). said (p ∷ l)) (sym (alone e))
     by false e = refl
 
-none_behind : (q : Key) (p e : Entry) (es : List Entry) → key_cmp p.0 e.0 ≡ Less → Rises e.0 es → has_key q p ≡ true
+none_after : (q : Key) (p e : Entry) (es : List Entry) → key_cmp p.0 e.0 ≡ Less → Rises e.0 es → has_key q p ≡ true
     → filter (has_key q) (e ∷ es) ≡ []
-none_behind q p e es less h at =
+none_after q p e es less h at =
     let under : key_cmp q e.0 ≡ Less = subst (λ x. key_cmp x e.0 ≡ Less) (sym (same_keys q p.0 at)) less in
     ap (λ o. cond (is_eq o) (e ∷ filter (has_key q) es) (filter (has_key q) es)) under ∙ none_above q e.0 es under h
 
 pub found : (q : Key) (p : Entry) (es : List Entry) → Rises p.0 es
-    → find key_cmp q (grouped_behind p es) ≡ at_key (p ∷ es) q
+    → find key_cmp q (grouped_after p es) ≡ at_key (p ∷ es) q
 found q p [] h = at_key-alone q p [] (λ e. refl)
 found q p (e ∷ es) h =
-    by_test (λ b. find key_cmp q (cond b (grouped_behind (merged_pair p e) es) (p ∷ grouped_behind e es))
+    by_test (λ b. find key_cmp q (cond b (grouped_after (merged_pair p e) es) (p ∷ grouped_after e es))
     ≡ at_key (p ∷ e ∷ es) q) (has_key p.0 e)
     (λ same. found q (merged_pair p e) es (rises_from p.0 e.0 es (same_keys p.0 e.0 same) h.1)
     ∙ at_key-same q p e es (same_keys p.0 e.0 same))
     (λ other. ap (cond (has_key q p) (Some p.1)) (found q e es h.1)
-    ∙ at_key-alone q p (e ∷ es) (none_behind q p e es (below p.0 e.0 h.0 other) h.1))
+    ∙ at_key-alone q p (e ∷ es) (none_after q p e es (below p.0 e.0 h.0 other) h.1))
 
 -- ---- merged
 

@@ -13,7 +13,7 @@ use Rattle.seg_values.specs.declared.error.TantivyError.{TantivyError}
 use Rattle.seg_values.specs.declared.error.TantivyError.TheVariants.{InvalidArgument}
 use Rattle.seg_values.specs.declared.error.ArgumentCause.TheVariants.{SizeOverflow}
 use Rattle.seg_field_metadata.specs.MetadataEntries.{Entry, Key, entry_of, fits, key_cmp, key_of, together}
-use Rattle.seg_field_metadata.specs.GroupedEntries.{grouped, grouped_behind}
+use Rattle.seg_field_metadata.specs.GroupedEntries.{grouped, grouped_after}
 use Rattle.seg_field_metadata.specs.MergedMetadata.{MergeFails, all_entries, at_key, has_key, merged, sizes_fit}
 use Rattle.seg_field_metadata.specs.declared.field_metadata.FieldMetadata.{FieldMetadata}
 use Rattle.seg_field_metadata.proofs.EntriesByKey.{Rises, by_test, found, merged_from_finds, merged_pair, rising}
@@ -39,7 +39,7 @@ grouped_merged : (ms : List FieldMetadata) (es : List Entry) → IsSortedByKey k
 grouped_merged [] es up alike = merged_from_finds [] es refl alike
 grouped_merged (m ∷ ms) es up alike =
     let rise = rises m ms up in
-    merged_from_finds (grouped_behind (entry_of m) (map entry_of ms)) es (rising (entry_of m) (map entry_of ms) rise)
+    merged_from_finds (grouped_after (entry_of m) (map entry_of ms)) es (rising (entry_of m) (map entry_of ms) rise)
     (λ q. found q (entry_of m) (map entry_of ms) rise ∙ alike q)
 
 joined_entries : (lists : List (Vec FieldMetadata Global))
@@ -62,33 +62,33 @@ sorted_merged lists all sorted are moved up =
 
 -- ---- sizes that pass 64 bits
 
-unfit_behind : (p : Entry) (es : List Entry) → fits p.1 ≡ false → sizes_fit (grouped_behind p es) ≡ false
-unfit_behind p [] unfit = ap (λ b. b && true) unfit
-unfit_behind p (e ∷ es) unfit =
-    by_test (λ b. sizes_fit (cond b (grouped_behind (merged_pair p e) es) (p ∷ grouped_behind e es)) ≡ false)
+unfit_after : (p : Entry) (es : List Entry) → fits p.1 ≡ false → sizes_fit (grouped_after p es) ≡ false
+unfit_after p [] unfit = ap (λ b. b && true) unfit
+unfit_after p (e ∷ es) unfit =
+    by_test (λ b. sizes_fit (cond b (grouped_after (merged_pair p e) es) (p ∷ grouped_after e es)) ≡ false)
     (has_key p.0 e)
-    (λ _. unfit_behind (merged_pair p e) es (unfit-more p.1 e.1 unfit))
-    (λ _. ap (λ b. b && sizes_fit (grouped_behind e es)) unfit)
+    (λ _. unfit_after (merged_pair p e) es (unfit-more p.1 e.1 unfit))
+    (λ _. ap (λ b. b && sizes_fit (grouped_after e es)) unfit)
 
-behind_same : (p e : Entry) (rest : List Entry) → has_key p.0 e ≡ true
-    → sizes_fit (grouped_behind p (e ∷ rest)) ≡ sizes_fit (grouped_behind (merged_pair p e) rest)
-behind_same p e rest same =
-    ap (λ b. sizes_fit (cond b (grouped_behind (merged_pair p e) rest) (p ∷ grouped_behind e rest))) same
+after_same : (p e : Entry) (rest : List Entry) → has_key p.0 e ≡ true
+    → sizes_fit (grouped_after p (e ∷ rest)) ≡ sizes_fit (grouped_after (merged_pair p e) rest)
+after_same p e rest same =
+    ap (λ b. sizes_fit (cond b (grouped_after (merged_pair p e) rest) (p ∷ grouped_after e rest))) same
 
 -- where they do for two entries of a key, they do for all
 pub unfit_grouped : (done : List Entry) (p e : Entry) (rest : List Entry) → has_key p.0 e ≡ true
     → fits (together (p.1 ∷ e.1 ∷ [])) ≡ false
-    → sizes_fit (done ++ grouped_behind p (e ∷ rest)) ≡ false
+    → sizes_fit (done ++ grouped_after p (e ∷ rest)) ≡ false
 unfit_grouped done p e rest same unfit =
-    list_all-append (λ (e : Entry). fits e.1) done (grouped_behind p (e ∷ rest))
-    ∙ ap (λ b. sizes_fit done && b) (behind_same p e rest same)
-    ∙ ap (λ b. sizes_fit done && b) (unfit_behind (merged_pair p e) rest unfit)
+    list_all-append (λ (e : Entry). fits e.1) done (grouped_after p (e ∷ rest))
+    ∙ ap (λ b. sizes_fit done && b) (after_same p e rest same)
+    ∙ ap (λ b. sizes_fit done && b) (unfit_after (merged_pair p e) rest unfit)
     ∙ and-false (sizes_fit done)
 
 -- so a failing step is why all fail
 pub overflows : (r : Result FieldMetadata TantivyError) (done : List Entry) (p e : Entry) → has_key p.0 e ≡ true
     → IfErr r (λ x. x ≡ InvalidArgument SizeOverflow) → OnErr r (fits (together (p.1 ∷ e.1 ∷ [])) ≡ false)
-    → IfErr r (λ x. (rest : List Entry) → MergeFails (done ++ grouped_behind p (e ∷ rest)) x)
+    → IfErr r (λ x. (rest : List Entry) → MergeFails (done ++ grouped_after p (e ∷ rest)) x)
 overflows (Ok m) done p e same is passes = tt
-overflows (Err x) done p e same is passes = λ rest. subst (MergeFails (done ++ grouped_behind p (e ∷ rest))) (sym is)
+overflows (Err x) done p e same is passes = λ rest. subst (MergeFails (done ++ grouped_after p (e ∷ rest))) (sym is)
     (unfit_grouped done p e rest same passes)

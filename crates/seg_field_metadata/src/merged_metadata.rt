@@ -2,7 +2,7 @@
 ghost use Rattle.std.specs.Prelude.{◌≡◌, ◌++◌, [], ◌∷◌, List, true, false, None, map, IfErr, IfOk, OnErr, OnOk};
 ghost use Rattle.std.specs.List.{flat_map};
 ghost use Rattle.std.specs.List.Sorted.{IsPermutation, IsSortedByKey};
-ghost use Rattle.seg_field_metadata.specs.GroupedEntries.{grouped, grouped_behind};
+ghost use Rattle.seg_field_metadata.specs.GroupedEntries.{grouped, grouped_after};
 ghost use Rattle.seg_field_metadata.specs.MetadataEntries.{Entry, entry_of, fits, key_cmp, key_of, known_of, together};
 ghost use Rattle.seg_field_metadata.specs.MergedMetadata.{MergeFails, all_entries, merged, sizes_fit};
 
@@ -74,7 +74,7 @@ fn add(
 ) -> TResult<FieldMetadata>
     ensures ok { IfOk result (λ new. (rest : List Entry)
         → map entry_of merged.old.items ++ grouped last (entry_of next ∷ rest)
-        ≡ map entry_of merged.new.items ++ grouped_behind (entry_of new) rest) }
+        ≡ map entry_of merged.new.items ++ grouped_after (entry_of new) rest) }
     ensures fits { OnOk result (sizes_fit (map entry_of merged.old.items) ≡ true
         → sizes_fit (map entry_of merged.new.items) ≡ true) }
     ensures err { IfErr result (λ e. (rest : List Entry)

@@ -7,10 +7,6 @@ use Rattle.std.proofs.lemmas.List.{append-nil}
 use Rattle.std.proofs.lemmas.List.FromFn.{map-range_with_len_more}
 use Rattle.seg_common.proofs.Lists.{range-one_more}
 
--- numbers that count up from 1
-pub number_more : (old new : List ℕ) (n x : ℕ) → old ≡ range_with_len 1 n → new ≡ old ++ x ∷ [] → x ≡ n + 1 → new ≡ range_with_len 1 (n + 1)
-number_more old new n x h k e = k ∙ ap (λ xs. xs ++ x ∷ []) h ∙ rw add-one (sym (range-one_more 1 n x (omega (arith, e))))
-
 same_more : {X : Type 0} (n : ℕ) (x : X) → replicate n x ++ x ∷ [] ≡ replicate (suc n) x
 same_more zero x = refl
 same_more (suc n) x = ap (λ xs. x ∷ xs) (same_more n x)

@@ -257,9 +257,9 @@ live_fine (f ∷ filters) (b ∷ bs) h =
     all_both IsGenerated _ (flat_map live (filtered filters bs))
     (kept_fine _ b.documents h.0) (live_fine filters bs h.1)
 
-joined_few : (ds front behind : List Document) (rest : ℕ) → length front ≤ length ds → length behind ≤ rest
-    → length (front ++ behind) ≤ length ds + rest
-joined_few ds front behind rest h k = omega (arith, h, k, length-append front behind)
+joined_few : (ds front after : List Document) (rest : ℕ) → length front ≤ length ds → length after ≤ rest
+    → length (front ++ after) ≤ length ds + rest
+joined_few ds front after rest h k = omega (arith, h, k, length-append front after)
 
 live_few : (filters : List (Option Filter)) (bs : List Batch) → length (flat_map live (filtered filters bs)) ≤ total bs
 live_few filters [] = omega arith

@@ -21,7 +21,7 @@ use Rattle.seg_open.proofs.Exports.{segments_rose, segments_so}
 use Rattle.seg_batches.proofs.Exports.{refusal_weaker}
 use Rattle.seg_check.specs.AdmittedInputs.{Fits}
 use Rattle.seg_model.specs.Refusals.{IfRefusal, IsRefusal, batches_error, build_refusal}
-use Rattle.seg_segment.proofs.Exports.{rose_before}
+use Rattle.seg_segment.proofs.Exports.{rose_before, failing, same_error}
 use Rattle.seg_check.proofs.Exports.{first_is_refusal}
 use Rattle.seg_index_build.specs.BuildOutcomes.{AreEmpty, IsWhyUntold}
 use Rattle.seg_index_build.specs.DirectoryCalls.{BuildsIndexes, merge_of}
@@ -40,7 +40,6 @@ use Rattle.seg_index_build.proofs.WorkReadings.{live_batches}
 use Rattle.seg_index_build.proofs.BuildRefusals.{by_batches, by_numbers, by_survivors, refusal_undamaged}
 use Rattle.seg_index_build.proofs.FilledWorkIndex.{are_merged, work_schema}
 use Rattle.seg_index_build.proofs.WriteErrors.{IsWriteError, calls_so, so_before, write_unrefused, write_undamaged}
-use Rattle.seg_index_build.proofs.SameErrors.{failing, same_error}
 
 -- ---- kinds of errors
 

@@ -1,6 +1,7 @@
 -- What a crash may leave of the output of a build.
-use Rattle.std.proofs.Common.{◌≡◌, ◌<◌, ◌^◌, ◌∙◌, ◌⊎◌, inl, inr, ℕ, List, [], ◌∷◌, length, map, IsTrue, None, Some, Result, Ok, Err, refl, sym, ap, subst}
+use Rattle.std.proofs.Common.{◌≡◌, ◌<◌, ◌^◌, ◌∙◌, ◌⊎◌, inl, inr, ℕ, List, [], ◌∷◌, length, map, IsTrue, None, Some, Result, Ok, refl, sym, ap, subst}
 use Rattle.std.specs.FinMap.{empty, get-empty}
+use Rattle.seg_segment.proofs.Exports.{failing}
 use Rattle.seg_common.specs.FileNameKeys.{name_cmp}
 use Rattle.seg_common.specs.declared.name.FileName.TheVariants.{Meta}
 use Rattle.seg_values.specs.declared.error.TantivyError.{TantivyError}
@@ -35,9 +36,6 @@ use Rattle.seg_index_build.proofs.WritingPlaces.{are_readings, told_filled}
 use Rattle.seg_index_build.proofs.JoinedSurvivors.{kept_survivors, survivors_joined}
 use Rattle.seg_index_build.proofs.WorkReadings.{live_batches}
 use Rattle.seg_index_build.proofs.FilledWorkIndex.{work_merged_meta, work_schema}
-
-abbrev failing : (T : Type 0) → TantivyError → Result T TantivyError
-failing T e = Err e
 
 -- files that are none have no index
 no_index : (files : NamedFiles) → files ≡ empty → index.OpensAsNoIndex segment_forms files

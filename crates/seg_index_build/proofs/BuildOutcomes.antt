@@ -1,6 +1,7 @@
 -- What the building of an index comes to, from what its steps say.
-use Rattle.std.proofs.Common.{◌≡◌, ◌≢◌, ◌∙◌, Option, None, Some, Result, Err, refl, sym, ap, subst, inl, inr}
+use Rattle.std.proofs.Common.{◌≡◌, ◌≢◌, ◌∙◌, Option, None, Some, Err, refl, sym, ap, subst, inl, inr}
 use Rattle.std.specs.Prelude.{◌⊎◌, IfSome}
+use Rattle.seg_segment.proofs.Exports.{failing}
 use Rattle.seg_values.specs.declared.error.TantivyError.{TantivyError}
 use Rattle.seg_values.specs.declared.error.TantivyError.TheVariants.{IndexAlreadyExists, OutOfMemory}
 use Rattle.seg_model.specs.Fields.{Analyzer}
@@ -54,9 +55,6 @@ not_begun known analyzer input e state cause =
     }
 
 -- ---- what is told of the answer
-
-abbrev failing : (T : Type 0) → TantivyError → Result T TantivyError
-failing T e = Err e
 
 module _ (T : Type 0) (e : TantivyError) (a b : Directories) where
   pub first_answer : (o : Option TantivyError) → IfSome o (λ x. ((e ≡ x) ⊎ (e ≡ OutOfMemory)) × (b ≡ a))

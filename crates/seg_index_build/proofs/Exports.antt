@@ -12,5 +12,5 @@ pub use Rattle.seg_index_build.proofs.MergeOutputs.{first_at}
 pub use Rattle.seg_index_build.proofs.OutputSteps.{one_files, one_index}
 pub use Rattle.seg_index_build.proofs.SourceTurns.{starved}
 pub use Rattle.seg_index_build.proofs.TakenParts.{builds_seen, gained_as, holds_taken}
-pub use Rattle.seg_index_build.proofs.WorkReadings.{counts, one_set}
+pub use Rattle.seg_index_build.proofs.WorkReadings.{IsCounted, alive_read, batches_counted, counts}
 pub use Rattle.seg_index_build.proofs.WriteErrors.{IsWriteError, calls_so, so_before, write_undamaged, write_unrefused}

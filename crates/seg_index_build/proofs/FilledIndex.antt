@@ -24,7 +24,7 @@ use Rattle.seg_model.proofs.Exports.{Fits}
 use Rattle.seg_segment.specs.IndexForms.{segment_forms}
 use Rattle.seg_segment.specs.SegmentFiles.{AreAbsent, KeepsAllBut, segment_names}
 use Rattle.seg_segment.specs.declared.segment_files.SegmentFiles.{SegmentFiles}
-use Rattle.seg_segment.proofs.Exports.{all_touched, keeps_untouched}
+use Rattle.seg_segment.proofs.Exports.{all_touched, keeps_untouched, same_error}
 use Rattle.seg_batches.specs.AliveFiles.{WritesAlive, alive_step, alive_steps}
 use Rattle.seg_batches.specs.BatchTotals.{AllHaveTotals}
 use Rattle.seg_batches.specs.WrittenSegments.{AllStand, AllTellAlive, WrittenSegment, alive_file, alive_files, all_listed, deletes_of, six_files}
@@ -38,7 +38,6 @@ use Rattle.seg_index_build.proofs.FinishSteps.{FinishParts, in_alive, in_meta, f
 use Rattle.seg_index_build.proofs.ToldDirectories.{tells-still}
 use Rattle.seg_index_build.proofs.PublishSteps.{published, publishing_keeps}
 use Rattle.seg_index_build.proofs.WriteErrors.{IsWriteError, all_alive_write, batches_write, both_write, calls_so, finish_writes, write_unrefused, writes_so}
-use Rattle.seg_index_build.proofs.SameErrors.{same_error}
 
 -- the meta that lists the segments of batches is read back
 pub read_back : (schema : Schema) (analyzer : Analyzer) (ids cuts : List ℕ) (operations : List Operation)

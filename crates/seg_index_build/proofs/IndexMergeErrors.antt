@@ -3,8 +3,8 @@ use Rattle.std.proofs.Common.{◌≡◌, ◌≢◌, ◌∙◌, ℕ, IsTrue, map,
 use Rattle.std.specs.Prelude.{IfErr, is_some}
 use Rattle.std.specs.FinMap.{len}
 use Rattle.std.proofs.lemmas.Bool.{false≢true}
+use Rattle.seg_segment.proofs.Exports.{failing, same_error}
 use Rattle.seg_common.specs.FaultCounts.{Rose}
-use Rattle.seg_values.specs.declared.error.ArgumentCause.{ArgumentCause}
 use Rattle.seg_values.specs.declared.error.ArgumentCause.TheVariants.{DifferentSettings, Documents, NoIndices, Numbers}
 use Rattle.seg_values.specs.declared.error.TantivyError.{TantivyError}
 use Rattle.seg_values.specs.declared.error.TantivyError.TheVariants.{SchemaError, InvalidArgument, IndexAlreadyExists, OpenReadError, OpenWriteError, IoError, DataCorruption, SystemError, FieldNotFound, OutOfMemory}
@@ -19,14 +19,13 @@ use Rattle.seg_merger.specs.Merger.{too_many}
 use Rattle.seg_index_build.specs.MergedSegments.{FillsOutput, IsRefusal as IsSegmentsRefusal}
 use Rattle.seg_index_build.proofs.WriteErrors.{IsWriteError, calls_so, so_before, write_undamaged}
 use Rattle.seg_index_build.proofs.MergeErrors.{argument_refuses, filling_fresh, filling_so, too_many_told}
-use Rattle.seg_index_build.proofs.MergeOutcomes.{cause_of, merged_refusal, one_only}
+use Rattle.seg_index_build.proofs.MergeOutcomes.{cause_of, merged_refusal, one_only, IsArgument}
 use Rattle.seg_index_build.proofs.BuildRefusals.{read_exists, refusal_undamaged}
 use Rattle.seg_index_build.specs.MergedIndices.{Begins, IsRefusal, IsUnlike, MergesIndices, MergesSources, Places, alike, asked_of_index, filled, indices_input, merges, not_begun, not_few, not_opened, refuses, starves, unlike}
 use Rattle.seg_index_build.specs.IndexMergeAnswers.{AnyRose, CanBeMerged, IsMergeError, SourcesAreWhole}
 use Rattle.seg_index_build.specs.Sources.{AllTell, OpensSources, files_of}
 use Rattle.seg_index_build.proofs.OpenedSources.{sources_few, sources_held, sources_rose, sources_so, sources_undamaged}
 use Rattle.seg_index_build.proofs.MergedIndices.{not_both}
-use Rattle.seg_index_build.proofs.SameErrors.{failing, same_error}
 
 -- ---- where it ends
 
@@ -65,9 +64,6 @@ module _ (indices : List IndexMeta) (id : ℕ) (e : TantivyError) (a b : Places)
 -- ---- which errors these are
 
 -- a refusal tells a cause
-abbrev IsArgument : TantivyError → Type 0
-IsArgument e = (cause : ArgumentCause) × (e ≡ InvalidArgument cause)
-
 unlike_cause : (indices : List IndexMeta) (e : TantivyError) → IsUnlike indices e → IsArgument e
 unlike_cause [] e why = (NoIndices, why)
 unlike_cause (i ∷ indices) e why = (DifferentSettings, why.1)

@@ -45,4 +45,3 @@ mod BuildRefusals
 mod FilledWorkIndex
 mod WriteErrors
 mod WrittenIndexes
-mod SameErrors

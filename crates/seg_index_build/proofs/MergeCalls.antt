@@ -1,6 +1,7 @@
 -- The merge of the work segments, by what the call of it says.
 use Rattle.std.proofs.Common.{◌≡◌, ◌∙◌, ℕ, List, IsTrue, map, Option, Some, None, Result, Ok, Err, sym, ap, subst, inl, inr}
 use Rattle.std.specs.Prelude.{IfOk}
+use Rattle.seg_segment.proofs.Exports.{failing}
 use Rattle.seg_values.specs.declared.error.TantivyError.{TantivyError}
 use Rattle.seg_values.specs.declared.error.TantivyError.TheVariants.{OutOfMemory}
 use Rattle.seg_directory.specs.Files.{NamedFiles}
@@ -27,9 +28,6 @@ use Rattle.seg_index_build.proofs.WritingPlaces.{output_told, told_filled}
 
 abbrev made_of : List SegmentParts → input.Settings → List (Option Filter) → ℕ → MergeInput
 made_of segments settings filters id = record { segments = segments; settings = settings; filters = filters; id = id }
-
-abbrev failing : (T : Type 0) → TantivyError → Result T TantivyError
-failing T e = Err e
 
 -- what is asked for is the merge of listed segments
 pub call_is : (i : Input) (listed_segments : List ListedSegment) (segments : List SegmentParts) (settings : IndexSettings)

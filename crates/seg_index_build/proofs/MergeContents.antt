@@ -1,21 +1,21 @@
 -- What is known where segments are merged.
-use Rattle.std.proofs.Common.{◌≡◌, ◌∙◌, ℕ, Bool, List, [], ◌∷◌, IsTrue, Option, None, Some, Ok, Err, sym, ap, subst, true}
+use Rattle.std.proofs.Common.{◌≡◌, ◌∙◌, ℕ, List, [], ◌∷◌, IsTrue, Option, Some, Ok, Err, sym, ap, subst, true}
 use Rattle.std.specs.Prelude.{IsSomeAnd}
 use Rattle.seg_values.specs.declared.error.TantivyError.{TantivyError}
 use Rattle.seg_directory.proofs.Exports.{all_went}
 use Rattle.seg_directory.specs.Files.{NamedFiles}
 use Rattle.seg_directory.specs.DirectoryStates.{DirectoryState}
 use Rattle.seg_meta.specs.IndexOfFiles as index
-use Rattle.seg_meta.specs.IndexOfFiles.{Deletes, Meta}
+use Rattle.seg_meta.specs.IndexOfFiles.{Meta}
 use Rattle.seg_segment.specs.IndexForms.{segment_forms}
 use Rattle.seg_segment.specs.FileContents.{Holds}
 use Rattle.seg_segment.specs.TokenTotals.{TellTotals}
 use Rattle.seg_open.specs.OpenSegment.{OpenSegment, kept_count}
 use Rattle.seg_open.specs.OpeningSteps.{Asked, HaveTotals}
-use Rattle.seg_open.proofs.Exports.{AreTold, EachRead, HoldsMarks as HoldsRead, IsHeld, segments_held, segments_stay, segments_totals}
+use Rattle.seg_open.proofs.Exports.{AreTold, EachRead, IsHeld, segments_held, segments_stay, segments_totals}
 use Rattle.seg_merger.specs.JoinedTotals.{joined_total}
 use Rattle.seg_batches.specs.BatchTotals.{HasTotals}
-use Rattle.seg_index_build.specs.MergeAnswers.{AllHaveHeld, HasHeld, HoldsMarks, IsMergeOf, IsWholeIndex}
+use Rattle.seg_index_build.specs.MergeAnswers.{AllHaveHeld, HasHeld, IsMergeOf, IsWholeIndex}
 use Rattle.seg_merger.specs.Merger.{all_fit}
 use Rattle.seg_index_build.specs.MergedSegments.{IsReadBack, MergeInput, first_schema, live_asked, output_meta_of}
 use Rattle.seg_index_build.specs.TwoDirectories.{Directories}
@@ -26,16 +26,11 @@ use Rattle.seg_index_build.proofs.OutputSteps.{one_files, one_index}
 
 -- ---- what was opened
 
-marks_as : (files : NamedFiles) (id documents : ℕ) (deletes : Option Deletes) (marks : List Bool)
-    → HoldsRead files id documents deletes marks → HoldsMarks files id documents deletes marks
-marks_as files id documents None marks h = h
-marks_as files id documents (Some d) marks h = h
-
 one_held : (files : NamedFiles) (a : Asked) (s : OpenSegment) → IsHeld files a s → AreTold files a s → HasHeld files a s
 one_held files a s h told = record {
   contents = h.contents;
   marks = h.marks;
-  alive = marks_as files a.segment.meta.id a.segment.meta.documents a.segment.meta.deletes h.marks h.alive;
+  alive = h.alive;
   cut = h.cut;
   totals =
       subst (λ (file : Option (List ℕ)). IsSomeAnd file (HaveTotals s.fields)) (sym h.contents.there.1.1.0)

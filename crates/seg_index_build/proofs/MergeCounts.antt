@@ -115,7 +115,7 @@ module _ (a : Asked) (f : Found) (s : OpenSegment) (is : IsReaderOf a f s) where
 abbrev asked_meta : List Asked → List ListedSegment
 asked_meta asked = map (λ (a : Asked). a.segment.meta) asked
 
-abbrev metas_of : List SegmentParts → List ListedSegment
+abbrev pub metas_of : List SegmentParts → List ListedSegment
 metas_of segments = map (λ (s : SegmentParts). s.meta) segments
 
 each_few : (asked : List Asked) (found : List Found) (opened : List OpenSegment) → AreReadersOf asked found opened

@@ -14,7 +14,7 @@ use Rattle.seg_directory.specs.DirectoryStates.{DirectoryState}
 use Rattle.seg_model.specs.DocumentCheck.{unless}
 use Rattle.seg_model.specs.Refusals.{IfRefusal, IsRefusal}
 use Rattle.seg_segment.specs.SegmentReadSteps.{IsReadError}
-use Rattle.seg_segment.proofs.Exports.{keeps_untouched}
+use Rattle.seg_segment.proofs.Exports.{keeps_untouched, failing, same_error}
 use Rattle.seg_open.specs.OpenSegment.{OpenSegment, kept_count}
 use Rattle.seg_open.specs.OpeningSteps.{IsNoDamage, OpensSegments}
 use Rattle.seg_open.proofs.Exports.{segments_rose, segments_so, segments_undamaged}
@@ -30,7 +30,6 @@ use Rattle.seg_index_build.proofs.MergeTurns.{Begins, MergeExits, Opened, at_beg
 use Rattle.seg_index_build.proofs.OutputSteps.{absent-parts, one_fresh}
 use Rattle.seg_index_build.proofs.BuildRefusals.{read_exists, read_unrefused, refusal_undamaged}
 use Rattle.seg_index_build.proofs.WriteErrors.{IsWriteError, calls_so, so_before, write_undamaged, write_unrefused}
-use Rattle.seg_index_build.proofs.SameErrors.{failing, same_error}
 
 -- ---- too many documents
 

@@ -27,7 +27,7 @@ use Rattle.seg_segment.specs.FileContents.{Holds}
 use Rattle.seg_segment.specs.SegmentFiles.{HasFiles, KeepsAllBut, write_steps}
 use Rattle.seg_segment.specs.TokenTotals.{TellTotals}
 use Rattle.seg_segment.specs.declared.segment_files.SegmentFiles.{SegmentFiles}
-use Rattle.seg_segment.proofs.Exports.{are_made}
+use Rattle.seg_segment.proofs.Exports.{are_made, failing}
 use Rattle.seg_open.specs.OpenSegment.{OpenSegment, kept_count}
 use Rattle.seg_merger.specs.JoinedTotals.{joined_total}
 use Rattle.seg_merger.specs.Merger.{AreJoinedFiles, too_many}
@@ -42,9 +42,6 @@ use Rattle.seg_index_build.proofs.MergeContents.{opened_held}
 use Rattle.seg_index_build.proofs.MergeTurns.{Opens}
 use Rattle.seg_index_build.proofs.MetaRoundTrips.{empty_back, merged_back}
 use Rattle.seg_index_build.proofs.OutputSteps.{read-files-kept}
-
-abbrev failing : (T : Type 0) → TantivyError → Result T TantivyError
-failing T e = Err e
 
 -- ---- an index is begun
 

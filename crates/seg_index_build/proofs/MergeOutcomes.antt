@@ -3,6 +3,7 @@ use Rattle.std.proofs.Common.{◌≡◌, ◌≢◌, ◌∙◌, ℕ, Bool, true, 
 use Rattle.std.specs.Prelude.{◌⊎◌, IfErr, IfOk}
 use Rattle.std.specs.FinMap.{len}
 use Rattle.std.specs.Option.{option_or}
+use Rattle.seg_segment.proofs.Exports.{failing}
 use Rattle.seg_values.specs.declared.error.ArgumentCause.{ArgumentCause}
 use Rattle.seg_values.specs.declared.error.ArgumentCause.TheVariants.{DifferentSchemas, Filters, NoSegments, Settings}
 use Rattle.seg_values.specs.declared.error.TantivyError.{TantivyError}
@@ -22,9 +23,6 @@ use Rattle.seg_index_build.specs.TwoDirectories.{Directories, goes_on, stops}
 use Rattle.seg_index_build.proofs.MergeErrors.{merge_error, merge_fresh, merge_starved, merge_undamaged}
 use Rattle.seg_index_build.proofs.MergeContents.{answer_index, answer_merge, answer_stays, answer_whole, exit_stays}
 use Rattle.seg_index_build.proofs.MergeTurns.{answered, merge_exits, unanswered}
-
-abbrev failing : (T : Type 0) → TantivyError → Result T TantivyError
-failing T e = Err e
 
 -- ---- refusals
 

@@ -4,6 +4,7 @@ use Rattle.std.specs.Prelude.{IfOk, nat_le}
 use Rattle.std.specs.List.{AllByRecursion, filter}
 use Rattle.std.proofs.lemmas.Bool.Decides.{nat_tests}
 use Rattle.std.proofs.lemmas.List.{append-nil, drop_all}
+use Rattle.seg_segment.proofs.Exports.{failing, same_error}
 use Rattle.seg_common.proofs.Lists.{all_filtered}
 use Rattle.seg_values.specs.declared.error.ArgumentCause.TheVariants.{Filters, Numbers}
 use Rattle.seg_values.specs.declared.error.TantivyError.{TantivyError}
@@ -28,7 +29,6 @@ use Rattle.seg_index_build.specs.MergedSegments.{FillsOutput, FillsTo, MergeInpu
 use Rattle.seg_index_build.specs.TwoDirectories.{both, goes_on, stops}
 use Rattle.seg_index_build.specs.IndexWriteSteps.{begin_steps, publish_steps}
 use Rattle.seg_index_build.proofs.MergeLists.{live_fit, live_parts}
-use Rattle.seg_index_build.proofs.SameErrors.{failing, same_error}
 
 -- ---- the filters of live segments, one after another
 

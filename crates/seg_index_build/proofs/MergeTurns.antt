@@ -1,6 +1,7 @@
 -- Where the merge of segments ends, with each directory by itself.
 use Rattle.std.proofs.Common.{◌≡◌, ◌∙◌, List, [], None, Result, Ok, Err, refl, sym, ap, subst}
 use Rattle.std.proofs.lemmas.List.{append-nil}
+use Rattle.seg_segment.proofs.Exports.{failing, same_error}
 use Rattle.seg_values.specs.declared.error.ArgumentCause.TheVariants.{Numbers}
 use Rattle.seg_values.specs.declared.error.TantivyError.{TantivyError}
 use Rattle.seg_values.specs.declared.error.TantivyError.TheVariants.{InvalidArgument, OutOfMemory}
@@ -17,7 +18,6 @@ use Rattle.seg_merger.specs.Merger.{AreJoinedFiles, too_many}
 use Rattle.seg_index_build.specs.MergedSegments.{FillsOutput, IsReadBack, MergeInput, MergesLive, MergesTo, fills, first_schema, live_asked, mixes, output_meta_of, starves}
 use Rattle.seg_index_build.specs.TwoDirectories.{Directories, goes_on, stops}
 use Rattle.seg_index_build.specs.IndexWriteSteps.{begin_steps, fill_one_steps}
-use Rattle.seg_index_build.proofs.SameErrors.{failing, same_error}
 
 -- the same error of another call
 pub works_as : (S T : Type 0) (steps : List Step) (e : TantivyError) (a b : DirectoryState)

@@ -1,6 +1,7 @@
 -- What is known of the merge of indices, by what it answers.
 use Rattle.std.proofs.Common.{◌≡◌, ◌∙◌, ℕ, List, [], ◌∷◌, IsTrue, map, Option, None, Some, Result, Ok, Err, sym, ap, subst, inl, inr}
 use Rattle.std.specs.Prelude.{◌⊎◌, IfOk, IsSomeAnd}
+use Rattle.seg_segment.proofs.Exports.{failing, same_error}
 use Rattle.seg_values.specs.declared.error.TantivyError.{TantivyError}
 use Rattle.seg_values.specs.declared.error.TantivyError.TheVariants.{OutOfMemory}
 use Rattle.seg_directory.proofs.Exports.{all_went}
@@ -27,7 +28,6 @@ use Rattle.seg_index_build.specs.MergedIndices.{AreAlike, Begins, IsRefusal, IsU
 use Rattle.seg_index_build.specs.IndexMergeAnswers.{IsMergeOfIndices}
 use Rattle.seg_index_build.specs.Sources.{AllTell, OpensSources, files_of}
 use Rattle.seg_index_build.proofs.OpenedSources.{sources_held, sources_stay as opening_stays, sources_stored}
-use Rattle.seg_index_build.proofs.SameErrors.{failing, same_error}
 
 -- an error is seen as itself
 pub seen_error : {T U : Type 0} (f : T → U) (r : Result T TantivyError) (e : TantivyError) → seen_as f r ≡ Err e → r ≡ Err e

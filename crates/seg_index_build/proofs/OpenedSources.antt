@@ -1,6 +1,7 @@
 -- What is known of segments that are opened from several directories.
 use Rattle.std.proofs.Common.{◌≡◌, ◌≤◌, ◌∙◌, ◌+◌, true, List, [], ◌∷◌, ◌++◌, map, Result, Ok, Err, refl, sym, ap, subst, inl, inr, arith}
 use Rattle.std.specs.List.{AllByRecursion}
+use Rattle.seg_segment.proofs.Exports.{same_error}
 use Rattle.seg_common.proofs.Lists.{all_filtered}
 use Rattle.seg_values.specs.declared.error.TantivyError.{TantivyError}
 use Rattle.seg_values.specs.declared.error.TantivyError.TheVariants.{OpenReadError}
@@ -8,7 +9,6 @@ use Rattle.seg_directory.specs.Files.{NamedFiles}
 use Rattle.seg_directory.specs.DirectoryStates.{DirectoryState}
 use Rattle.seg_meta.specs.Metas.{SegmentParts}
 use Rattle.seg_meta.specs.declared.index_meta.IndexMeta.{IndexMeta}
-use Rattle.seg_meta.specs.IndexOfFiles.{ListedSegment}
 use Rattle.seg_meta.specs.MetaMeaning.{settings_of}
 use Rattle.seg_model.specs.Fields.{Schema}
 use Rattle.seg_open.specs.OpenSegment.{OpenSegment, kept_count}
@@ -16,13 +16,12 @@ use Rattle.seg_open.specs.OpeningSteps.{Asked, IsNoDamage, IsReadError, OpensSeg
 use Rattle.seg_open.proofs.Exports.{EachRead, IsOf, segments_of_schema, segments_rose, segments_so, segments_stay, segments_undamaged}
 use Rattle.seg_merger.specs.Merger.{all_fit}
 use Rattle.seg_index_build.specs.MergedSegments.{MergeInput, is_live, live_documents}
-use Rattle.seg_index_build.proofs.MergeCounts.{IsStored, opened_few, opened_stored}
+use Rattle.seg_index_build.proofs.MergeCounts.{IsStored, opened_few, opened_stored, metas_of}
 use Rattle.seg_index_build.proofs.MergeLists.{all_asked, live_whole}
 use Rattle.seg_index_build.proofs.MergeContents.{opened_held}
 use Rattle.seg_index_build.specs.MergedIndices.{all_segments, asked_of_index, listed_segments, unfiltered}
 use Rattle.seg_index_build.specs.IndexMergeAnswers.{AnyRose, HaveHeld, SourcesAreWhole}
 use Rattle.seg_index_build.specs.Sources.{AllTell, OpensSources, files_of, goes_on, stops}
-use Rattle.seg_index_build.proofs.SameErrors.{same_error}
 
 abbrev opened_so : List OpenSegment → Result (List OpenSegment) TantivyError
 opened_so opened = Ok opened
@@ -138,9 +137,6 @@ sources_stored (i ∷ indices) (s ∷ before) after opened (goes_on mine state (
     subst (AllByRecursion IsStored) (sym (same_opened opened (mine ++ more) is))
     (stored_both mine more (opened_stored (one_input i) mine s state opens (none_fit (listed_segments i)))
     (sources_stored indices before states more next))
-
-abbrev metas_of : List SegmentParts → List ListedSegment
-metas_of segments = map (λ (s : SegmentParts). s.meta) segments
 
 kept_both : (xs ys : List OpenSegment) → kept_count (xs ++ ys) ≡ kept_count xs + kept_count ys
 kept_both [] ys = omega arith

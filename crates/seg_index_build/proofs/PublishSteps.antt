@@ -60,11 +60,6 @@ pub begun_of : {T : Type 0} (settings : Settings) (given schema : Schema) {r : R
 begun_of settings given schema {r =
     r} {a = a} {b = b} is works = subst (λ s. Works (begin_steps settings s) r a b) is works
 
--- this meta is saved
-pub published_of : {T : Type 0} (given meta : index.Meta) {r : Result T TantivyError} {a b : DirectoryState}
-    → given ≡ meta → Works (publish_steps given) r a b → Works (publish_steps meta) r a b
-published_of given meta {r = r} {a = a} {b = b} is works = subst (λ m. Works (publish_steps m) r a b) is works
-
 -- an index is filled with this meta
 pub filled_of : {T : Type 0} (given meta : index.Meta) (id : ℕ) (files : SegmentFiles) {r : Result T TantivyError} {a b : DirectoryState}
     → given ≡ meta → Works (fill_one_steps given id files) r a b → Works (fill_one_steps meta id files) r a b

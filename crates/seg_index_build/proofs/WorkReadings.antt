@@ -20,14 +20,14 @@ use Rattle.seg_model.specs.Operations.{Operation, Batch, batches_from, filtered_
 use Rattle.seg_model.specs.ValidInputs.{filter_fits, filters_fit}
 use Rattle.seg_model.proofs.Exports.{was_read}
 use Rattle.seg_segment.specs.IndexForms.{segment_forms}
-use Rattle.seg_segment.specs.AliveFiles.{HoldsAlive}
+use Rattle.seg_segment.specs.AliveFiles.{HoldsAlive, HoldsMarks}
 use Rattle.seg_segment.specs.Laws.{HoldsOneContents}
 use Rattle.seg_open.specs.OpenSegment.{OpenSegment, contents_of, part_of}
 use Rattle.seg_open.specs.OpeningSteps.{Asked}
 use Rattle.seg_merger.specs.Merger.{all_fit, fits}
 use Rattle.seg_batches.specs.WrittenSegments.{AllStand, AllTellAlive, TellsAlive, all_listed, deletes_of, listed, segment_of, segments_of}
 use Rattle.seg_batches.proofs.Exports.{length-alive_after}
-use Rattle.seg_index_build.specs.MergeAnswers.{AllHaveHeld, HasHeld, HoldsMarks, LiveAreWhole}
+use Rattle.seg_index_build.specs.MergeAnswers.{AllHaveHeld, HasHeld, LiveAreWhole}
 use Rattle.seg_index_build.specs.MergedSegments.{is_live, live_asked}
 
 -- ---- batches
@@ -83,7 +83,7 @@ module _ (files : NamedFiles) (stamp id documents : ℕ) (alive read : List Bool
   alive_as true all tells held = held ∙ ap (λ n. replicate n true) (sym counted) ∙ sym (all_marked alive all)
   alive_as false all tells held = one_set files id stamp documents read alive held tells
 
-  alive_read : TellsAlive files id documents alive (deletes_of stamp alive)
+  pub alive_read : TellsAlive files id documents alive (deletes_of stamp alive)
       → HoldsMarks files id documents (deletes_of stamp alive) read → read ≡ alive
   alive_read tells held = alive_as (list_all (λ b. b) alive) refl tells held
 

@@ -1,5 +1,6 @@
 -- Where the writing of both indexes ends, with each directory by itself.
 use Rattle.std.proofs.Common.{◌≡◌, List, Result, Ok, Err, sym, subst}
+use Rattle.seg_segment.proofs.Exports.{failing, same_error}
 use Rattle.seg_values.specs.declared.error.TantivyError.{TantivyError}
 use Rattle.seg_directory.proofs.Exports.{answers}
 use Rattle.seg_directory.specs.DirectoryStates.{DirectoryState}
@@ -13,7 +14,6 @@ use Rattle.seg_index_build.specs.TwoDirectories.{Directories, both, stops, goes_
 use Rattle.seg_index_build.specs.IndexWriteSteps.{begin_steps}
 use Rattle.seg_index_build.proofs.FilledIndex.{filled_as}
 use Rattle.seg_index_build.proofs.MergeTurns.{MergeExits, Merged, merge_exits, merged}
-use Rattle.seg_index_build.proofs.SameErrors.{failing, same_error}
 
 module _ (analyzer : Analyzer) (input : Input) where
   abbrev pub Lists : Result (Unit {0}) TantivyError → DirectoryState → DirectoryState → Type 0

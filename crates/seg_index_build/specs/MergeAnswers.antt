@@ -1,5 +1,5 @@
 -- What is known of the merge of segments, by what it answers.
-use Rattle.std.specs.Prelude.{ℕ, ◌≡◌, ◌⊎◌, List, [], ◌∷◌, replicate, true, Bool, Option, Some, None, IsSomeAnd, IsTrue, is_some, ◌<◌, ◌^◌, map}
+use Rattle.std.specs.Prelude.{ℕ, ◌≡◌, ◌⊎◌, List, [], ◌∷◌, true, Bool, Some, IsSomeAnd, IsTrue, is_some, ◌<◌, ◌^◌, map}
 use Rattle.std.specs.FinMap.{get, len}
 use Rattle.std.specs.List.{AllByRecursion}
 use Rattle.seg_common.specs.FaultCounts.{Rose}
@@ -10,13 +10,13 @@ use Rattle.seg_values.specs.declared.error.TantivyError.{TantivyError}
 use Rattle.seg_values.specs.declared.error.TantivyError.TheVariants.{DataCorruption, IndexAlreadyExists, InvalidArgument, IoError, OpenReadError, OpenWriteError, OutOfMemory}
 use Rattle.seg_directory.specs.Files.{NamedFiles}
 use Rattle.seg_meta.specs.IndexOfFiles as index
-use Rattle.seg_meta.specs.IndexOfFiles.{Deletes, Meta}
+use Rattle.seg_meta.specs.IndexOfFiles.{Meta}
 use Rattle.seg_meta.specs.Metas.{SegmentParts}
 use Rattle.seg_model.specs.Contents.{Contents}
 use Rattle.seg_model.specs.Operations.{filtered_by}
 use Rattle.seg_segment.specs.IndexForms.{segment_forms}
 use Rattle.seg_segment.specs.FileContents.{Holds}
-use Rattle.seg_segment.specs.AliveFiles.{HoldsAlive}
+use Rattle.seg_segment.specs.AliveFiles.{HoldsMarks}
 use Rattle.seg_open.specs.OpenSegment.{OpenSegment, contents_of, kept_count}
 use Rattle.seg_open.specs.OpeningSteps.{Asked, HaveTotals}
 use Rattle.seg_merger.specs.JoinedTotals.{joined_total}
@@ -46,11 +46,6 @@ LiveAreWhole files segments =
     AllByRecursion (λ s. is_live s.meta ≡ true → index.IsWhole segment_forms files s.schema s.meta) segments
 
 -- ---- what is merged
-
--- the alive file holds these marks; without deletes all are alive
-abbrev pub HoldsMarks : NamedFiles → ℕ → ℕ → Option Deletes → List Bool → Type 0
-HoldsMarks files id documents None alive = alive ≡ replicate documents true
-HoldsMarks files id documents (Some d) alive = HoldsAlive files id d.stamp documents alive
 
 -- an open segment has what files hold of one that is asked for: its contents, of the documents that are alive there
 -- those that its filter keeps, and the totals of its open fields

@@ -7,6 +7,7 @@ use Rattle.std.specs.Ordering.{nat_cmp, eq_by_cmp}
 use Rattle.std.specs.Cmp.Lexicographic.{slice_cmp}
 use Rattle.std.proofs.lemmas.List.{map-append, length-append}
 use Rattle.std.proofs.lemmas.Option.{slice_get-map, get_or_from_slice_get}
+use Rattle.seg_segment.proofs.Exports.{pair_of}
 use Rattle.seg_bits.specs.BitSets.{member_count}
 use Rattle.seg_values.specs.declared.schema.FieldEntry.{FieldEntry}
 use Rattle.seg_values.specs.declared.schema.IndexOption.{IndexOption}
@@ -32,7 +33,6 @@ use Rattle.seg_merger.specs.JoinedSources.{IsJoinable, AreJoinable}
 use Rattle.seg_segment.specs.WrittenTerms.{AscendBy, AreOfTerm, term_with}
 use Rattle.seg_merger.proofs.MovedIds.{moved_is_kept, postings_append, kept_counted}
 use Rattle.seg_merger.proofs.SortedEntries.{find_there}
-use Rattle.seg_merger.proofs.SourcePostings.{pair_of}
 
 -- ---- the terms of an open field
 

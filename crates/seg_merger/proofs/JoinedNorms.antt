@@ -1,8 +1,8 @@
 -- The length ids of segments, field by field.
-use Rattle.std.proofs.Common.{◌≡◌, ℕ, zero, suc, ◌+◌, Bool, true, false, cond, get_or, List, [], ◌∷◌, ◌++◌, map, take, drop, refl, sym, ap, ◌∙◌, arith, append_assoc, append-nil}
+use Rattle.std.proofs.Common.{◌≡◌, ℕ, suc, ◌+◌, Bool, true, false, cond, get_or, List, [], ◌∷◌, ◌++◌, map, take, drop, refl, sym, ap, ◌∙◌, arith, append_assoc, append-nil}
 use Rattle.std.specs.Prelude.{Some, None, option_map, unwrap_or}
-use Rattle.std.specs.List.{slice_get, slice_index_or, enumerate_from, AllByRecursion}
-use Rattle.std.proofs.lemmas.Option.{none-some, same_Some, slice_get-map, unwrap_or-slice_get}
+use Rattle.std.specs.List.{slice_get, slice_index_or, AllByRecursion}
+use Rattle.std.proofs.lemmas.Option.{slice_get-map, unwrap_or-slice_get}
 use Rattle.seg_values.specs.declared.schema.FieldEntry.{FieldEntry}
 use Rattle.seg_model.specs.Contents.{norms_at}
 use Rattle.seg_model.specs.Fields.{Schema, has_lengths, fields}
@@ -13,7 +13,7 @@ use Rattle.seg_open.specs.OpenSegment.{OpenSegment, contents_of, part_of}
 use Rattle.seg_norms.specs.FieldNorms.{fields_with_lengths, norms_parts}
 use Rattle.seg_norms.specs.StoredNorms.{norms_of}
 use Rattle.seg_segment.specs.WrittenLengths.{parts_with}
-use Rattle.seg_segment.proofs.Exports.{selected}
+use Rattle.seg_segment.proofs.Exports.{selected, entry_at}
 use Rattle.seg_merger.specs.JoinedNorms.{kept_ids, joined_ids}
 use Rattle.seg_merger.proofs.KeptLists.{kept_marked, kept_next, kept_of_none}
 
@@ -34,13 +34,6 @@ pub no_ids : (field : ℕ) (p : OpenSegment) (ids : List ℕ) → field_of p.nor
 no_ids field p ids none = sym (ap (λ xs. ids ++ xs) (kept_of_none p.alive (unwrap_or (field_of p.norms field) []) (ap (λ o. unwrap_or o []) none)) ∙ append-nil ids)
 
 -- ---- the ids at a field of a schema
-
-entry_at : (n k : ℕ) (es : List FieldEntry) (e : FieldEntry) → slice_get es k ≡ Some e → (i : ℕ) → n + k ≡ i → slice_get (enumerate_from n es) k ≡ Some (i, e)
-entry_at n k [] e is i at = absurd (none-some e is)
-entry_at n zero (x ∷ es) e is i at =
-    let place : n ≡ i = omega (arith, at) in
-    ap (λ y. Some (n, y)) (same_Some x e is) ∙ ap (λ j. Some (j, e)) place
-entry_at n (suc k) (x ∷ es) e is i at = entry_at (n + 1) k es e is i (omega (arith, at))
 
 module _ (schema : Schema) (k : ℕ) (e : FieldEntry) (is : slice_get schema k ≡ Some e) where
   pub made_at : (f : ℕ × FieldEntry → List ℕ) → slice_index_or (map f (fields schema)) k [] ≡ f (k, e)
@@ -66,8 +59,8 @@ module _ (schema : Schema) (k : ℕ) (e : FieldEntry) (is : slice_get schema k �
 -- ---- all fields
 
 first_same : (b : Bool) (G H : ℕ → Part) (n : ℕ) (rest : List ℕ) → (b ≡ true → G n ≡ H n) → map G rest ≡ map H rest → map G (cond b (n ∷ []) [] ++ rest) ≡ map H (cond b (n ∷ []) [] ++ rest)
-first_same true G H n rest here behind = λ j. here refl j ∷ behind j
-first_same false G H n rest here behind = behind
+first_same true G H n rest here following = λ j. here refl j ∷ following j
+first_same false G H n rest here following = following
 
 each_same : (n : ℕ) (es : List FieldEntry) (G H : ℕ → Part) → ((k i : ℕ) (e : FieldEntry) → n + k ≡ i → slice_get es k ≡ Some e → has_lengths e ≡ true → G i ≡ H i) → map G (selected n es) ≡ map H (selected n es)
 each_same n [] G H same = refl

@@ -13,6 +13,7 @@ use Rattle.std.proofs.lemmas.Bool.{false≢true, and_parts}
 use Rattle.std.proofs.lemmas.List.{get_or_at, get_or_read, drop_more, length_push}
 use Rattle.std.proofs.lemmas.Map.Text.{is_eq-slice_cmp}
 use Rattle.std.proofs.lemmas.Slice.Eq.{bytes_eq-Decides}
+use Rattle.seg_segment.proofs.Exports.{pair_of, term_of}
 use Rattle.seg_common.specs.declared.term_info.TermInfo.{TermInfo}
 use Rattle.seg_termdict.specs.MergedTerms.{Standing, standing_in, standings_from}
 use Rattle.seg_model.specs.DocumentTerms.{Posting}
@@ -23,7 +24,6 @@ use Rattle.seg_termdict.specs.TermStreams.{no_term}
 use Rattle.seg_postings.specs.OpenedFields.{ReadTerm}
 use Rattle.seg_merger.specs.MovedPostings.{SourceTerms, term_at, moved, moved_from, moved_from_all, ranked_of}
 use Rattle.seg_merger.specs.JoinedSources.{IsJoinable}
-use Rattle.seg_merger.proofs.SourcePostings.{pair_of, term_of}
 
 -- terms with their ordinals, the first of which is n
 abbrev ranked_at : ℕ → List ReadTerm → List (RankedTerm TermInfo)
@@ -36,13 +36,13 @@ differs Greater h = absurd (false≢true h)
 
 module _ (key : List ℕ) (segment : ℕ) where
   -- terms after the key
-  none_behind : (n : ℕ) (ts : List ReadTerm) → below_all (slice_cmp nat_cmp) key (map pair_of ts) ≡ true → standing_in segment key (ranked_at n ts) ≡ []
-  none_behind n [] h = refl
-  none_behind n (t ∷ ts) h =
+  none_after : (n : ℕ) (ts : List ReadTerm) → below_all (slice_cmp nat_cmp) key (map pair_of ts) ≡ true → standing_in segment key (ranked_at n ts) ≡ []
+  none_after n [] h = refl
+  none_after n (t ∷ ts) h =
       let parts = and_parts (is_lt (slice_cmp nat_cmp key t.bytes)) (below_all (slice_cmp nat_cmp) key (map pair_of ts)) h in
       let other : bytes_eq key t.bytes ≡ false = sym (is_eq-slice_cmp key t.bytes) ∙ differs (slice_cmp nat_cmp key t.bytes) parts.0 in
       ap (λ b. map (λ (u : RankedTerm TermInfo). record { segment = segment; ord = u.ord; info = u.info }) (cond b (record { ord = n; key = t.bytes; info = t.info } ∷ filter (λ (u : RankedTerm TermInfo). bytes_eq key u.key) (ranked_at (n + 1) ts)) (filter (λ (u : RankedTerm TermInfo). bytes_eq key u.key) (ranked_at (n + 1) ts)))) other
-      ∙ none_behind (n + 1) ts parts.1
+      ∙ none_after (n + 1) ts parts.1
 
   -- a segment doesn't have the key
   record IsLacking (standings : List (Standing TermInfo)) (ts : List ReadTerm) : Type 0 where
@@ -79,7 +79,7 @@ module _ (key : List ℕ) (segment : ℕ) where
       by : (b : Bool) → bytes_eq key t.bytes ≡ b → below_all (slice_cmp nat_cmp) t.bytes (map pair_of ts) ≡ true → Stands (standing_in segment key (ranked_at (n + 1) ts)) ts → Stands (standing_in segment key (ranked_at n (t ∷ ts))) (t ∷ ts)
       by true e low rest =
           let same : key ≡ t.bytes = (bytes_eq-Decides key t.bytes).0 e in
-          let none = none_behind (n + 1) ts (ap (λ k. below_all (slice_cmp nat_cmp) k (map pair_of ts)) same ∙ low) in
+          let none = none_after (n + 1) ts (ap (λ k. below_all (slice_cmp nat_cmp) k (map pair_of ts)) same ∙ low) in
           inr (record { ord = n; term = t; one = split true e ∙ ap (λ ss. record { segment = segment; ord = n; info = t.info } ∷ ss) none; has = at true e })
       by false e low rest = later e rest
 

@@ -18,7 +18,7 @@ module _ (option : IndexOption) where
   recorded_before : (d least last : ℕ) (ps : List Posting) → d < least → ArePostings option least last ps → recorded_at d ps ≡ None
   recorded_before d least last [] lt h = refl
   recorded_before d least last (p ∷ ps) lt h =
-      let behind : least ≤ p.document = h.0 in
+      let following : least ≤ p.document = h.0 in
       let later = recorded_before d (p.document + 1) last ps (omega arith) h.3 in
       grind (arith, nat_tests)
 
@@ -40,10 +40,10 @@ module _ (option : IndexOption) where
   moved_later : (d least last : ℕ) (x : Option ℕ) (ids : List (Option ℕ)) (ps : List Posting) → d + 1 ≤ least → ArePostings option least last ps → moved_at d (x ∷ ids) ps ≡ moved_at (d + 1) ids ps
   moved_later d least last x ids [] le h = refl
   moved_later d least last x ids (p ∷ ps) le h =
-      let behind : least ≤ p.document = h.0 in
-      let place = one_less d p.document (omega (arith, behind)) in
+      let following : least ≤ p.document = h.0 in
+      let place = one_less d p.document (omega (arith, following)) in
       ap (λ n. under_id (get_or (x ∷ ids) n None) p ++ moved_at d (x ∷ ids) ps) place
-      ∙ ap (λ l. under_id (get_or ids (p.document - (d + 1)) None) p ++ l) (moved_later d (p.document + 1) last x ids ps (omega (arith, behind)) h.3)
+      ∙ ap (λ l. under_id (get_or ids (p.document - (d + 1)) None) p ++ l) (moved_later d (p.document + 1) last x ids ps (omega (arith, following)) h.3)
 
   first_or_later : (d n : ℕ) → d ≤ n → (n ≡ d) ⊎ (d < n)
   first_or_later zero zero le = inl refl
@@ -59,7 +59,7 @@ module _ (option : IndexOption) where
     abbrev rest : ℕ
     rest = length bs
 
-    module _ (at : p.document ≡ d) (behind : ArePostings option (d + 1) (d + 1 + length bs) ps) (later : (from : ℕ) → moved_at (d + 1) (new_ids from bs) ps ≡ postings_from from (kept bs (all_recorded (d + 1) (length bs) ps))) where
+    module _ (at : p.document ≡ d) (following : ArePostings option (d + 1) (d + 1 + length bs) ps) (later : (from : ℕ) → moved_at (d + 1) (new_ids from bs) ps ≡ postings_from from (kept bs (all_recorded (d + 1) (length bs) ps))) where
       recorded_here : recorded_at d (p ∷ ps) ≡ Some p.recorded
       recorded_here = grind (arith, nat_tests)
 
@@ -72,12 +72,12 @@ module _ (option : IndexOption) where
       here : (b : Bool) → moved_at d (new_ids first (b ∷ bs)) (p ∷ ps) ≡ postings_from first (kept (b ∷ bs) (all_recorded d (suc (length bs)) (p ∷ ps)))
       here true =
           ap (λ n. under_id (get_or (Some first ∷ new_ids (first + 1) bs) n None) p ++ moved_at d (Some first ∷ new_ids (first + 1) bs) ps) place
-          ∙ ap (λ l. under first p ∷ l) (moved_later d (d + 1) (d + 1 + length bs) (Some first) (new_ids (first + 1) bs) ps (omega arith) behind ∙ later (first + 1))
+          ∙ ap (λ l. under first p ∷ l) (moved_later d (d + 1) (d + 1 + length bs) (Some first) (new_ids (first + 1) bs) ps (omega arith) following ∙ later (first + 1))
           ∙ ap (λ rs. under first p ∷ postings_from (first + 1) (kept bs rs)) (sym others)
           ∙ ap (λ r. listed first r ++ postings_from (first + 1) (kept bs (all_recorded (d + 1) (length bs) (p ∷ ps)))) (sym recorded_here)
       here false =
           ap (λ n. under_id (get_or (None ∷ new_ids first bs) n None) p ++ moved_at d (None ∷ new_ids first bs) ps) place
-          ∙ moved_later d (d + 1) (d + 1 + length bs) None (new_ids first bs) ps (omega arith) behind
+          ∙ moved_later d (d + 1) (d + 1 + length bs) None (new_ids first bs) ps (omega arith) following
           ∙ later first
           ∙ ap (λ rs. postings_from first (kept bs rs)) (sym others)
 
@@ -101,13 +101,13 @@ module _ (option : IndexOption) where
   moved_kept d first (b ∷ bs) (p ∷ ps) h =
       let end : d + suc (length bs) ≡ d + 1 + length bs = omega arith in
       let below : p.document < d + 1 + length bs = omega (arith, h.1) in
-      let behind : ArePostings option (p.document + 1) (d + 1 + length bs) ps = subst (λ n. ArePostings option (p.document + 1) n ps) end h.3 in
+      let following : ArePostings option (p.document + 1) (d + 1 + length bs) ps = subst (λ n. ArePostings option (p.document + 1) n ps) end h.3 in
       elim (first_or_later d p.document h.0) [
         | inl at ↦
-            let from_next : ArePostings option (d + 1) (d + 1 + length bs) ps = subst (λ n. ArePostings option (n + 1) (d + 1 + length bs) ps) at behind in
+            let from_next : ArePostings option (d + 1) (d + 1 + length bs) ps = subst (λ n. ArePostings option (n + 1) (d + 1 + length bs) ps) at following in
             here d first bs p ps at from_next (λ from. moved_kept (d + 1) from bs ps from_next) b
         | inr lt ↦
-            let all : ArePostings option (d + 1) (d + 1 + length bs) (p ∷ ps) = (omega (arith, lt), below, h.2, behind) in
+            let all : ArePostings option (d + 1) (d + 1 + length bs) (p ∷ ps) = (omega (arith, lt), below, h.2, following) in
             elsewhere d first bs p ps lt all (λ from. moved_kept (d + 1) from bs (p ∷ ps) all) b
       ]
 

@@ -5,6 +5,7 @@ use Rattle.std.specs.List.{AllByRecursion, Any, slice_get}
 use Rattle.std.specs.Ordering.{nat_cmp, eq_by_cmp}
 use Rattle.std.specs.Cmp.Lexicographic.{slice_cmp}
 use Rattle.std.proofs.lemmas.Option.{none-some, same_Some, get_or_from_slice_get}
+use Rattle.seg_segment.proofs.Exports.{term_of}
 use Rattle.seg_common.specs.declared.term_info.TermInfo.{TermInfo}
 use Rattle.seg_model.specs.DocumentTerms.{Posting}
 use Rattle.seg_postings.specs.declared.record_kind.RecordKind.{RecordKind}
@@ -14,12 +15,6 @@ use Rattle.seg_termdict.specs.Dictionary.{Term}
 use Rattle.seg_merger.specs.MovedPostings.{SourceTerms, under, under_id, moved, term_at, postings_with, terms_of}
 
 -- ---- the term with a key
-
-abbrev pub pair_of : ReadTerm → List ℕ × List Posting
-pair_of t = (t.bytes, t.postings)
-
-abbrev pub term_of : ReadTerm → Term
-term_of t = (t.bytes, t.info)
 
 abbrev is_at : List ℕ → ReadTerm → Bool
 is_at key t = eq_by_cmp (slice_cmp nat_cmp) key t.bytes
@@ -119,6 +114,6 @@ pub none_left : (left : List Posting) → kept_kind_of left ≡ None → left �
 none_left [] e = refl
 none_left (p ∷ ps) e = absurd (none-some _ (sym e))
 
-pub all_behind : {X : Type 0} (P : X → Type 0) (xs : List X) → AllByRecursion P xs → AllByRecursion P (drop 1 xs)
-all_behind P [] all = tt
-all_behind P (x ∷ xs) all = all.1
+pub all_after : {X : Type 0} (P : X → Type 0) (xs : List X) → AllByRecursion P xs → AllByRecursion P (drop 1 xs)
+all_after P [] all = tt
+all_after P (x ∷ xs) all = all.1

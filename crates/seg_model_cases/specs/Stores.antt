@@ -1,7 +1,7 @@
 -- Cases of stores, in bytes that were written by hand.
 use Rattle.std.specs.Prelude.{◌≡◌, ℕ, zero, suc, List, [], ◌∷◌, ◌++◌, map, take, length, true, false, Some, None}
 use Rattle.seg_values.specs.Tree.{leaf, unsigned}
-use Rattle.seg_store.specs.AliveDocuments.{alive_behind}
+use Rattle.seg_store.specs.AliveDocuments.{alive_from}
 use Rattle.seg_store.specs.Block.{Block}
 use Rattle.seg_store.specs.Cache.{CachedStore, after_get, unused}
 use Rattle.seg_store.specs.Store.{documents_of, store_of}
@@ -45,7 +45,7 @@ pub record StoreCases : Type 0 where
   -- six times, a block each
   pub six : length (all_blocks (stacked 6 (empty_writer 16384))) ≡ 6
   -- the second of three documents is alive
-  pub alive : alive_behind {X = ℕ} 0 (Some (false ∷ true ∷ false ∷ [])) (1 ∷ 2 ∷ 3 ∷ []) ≡ 2 ∷ []
+  pub alive : alive_from {X = ℕ} 0 (Some (false ∷ true ∷ false ∷ [])) (1 ∷ 2 ∷ 3 ∷ []) ≡ 2 ∷ []
   -- of the documents 0, 1, 0 and 2 the third is in a block that is kept, the last in place of the one used longest ago
   pub used : after_get 2 (after_get 0 (after_get 1 (after_get 0 cached))) ≡
       record cached { entries = 2 ∷ 0 ∷ []; hits = 1; misses = 3 }

@@ -3,7 +3,7 @@ use Rattle.std.proofs.Common.{◌≡◌, ℕ, ◌||◌, Bool, true, false, cond,
 use Rattle.std.specs.Prelude.{◌&&◌, is_some}
 use Rattle.std.specs.List.{list_all, slice_get}
 use Rattle.std.specs.Ordering.{eq_by_cmp}
-use Rattle.std.specs.Option.{option_map}
+use Rattle.std.specs.Option.{option_map, option_or}
 use Rattle.std.specs.Str.{bytes_eq}
 use Rattle.std.proofs.lemmas.Bool.{false≢true}
 use Rattle.std.proofs.lemmas.List.Quantifiers.{position-Some}
@@ -12,6 +12,7 @@ use Rattle.std.proofs.lemmas.Map.Keys.{any_passes_from_place}
 use Rattle.std.proofs.lemmas.Option.{get_or_from_slice_get, none-some, same_Some, slice_get_within}
 use Rattle.std.proofs.lemmas.Slice.Eq.{bytes_eq-Decides}
 use Rattle.std.specs.Cmp.{first_so, second_so}
+use Rattle.seg_model.specs.DocumentCheck.{first_of}
 use Rattle.seg_common.specs.TabulatedMaps.{is_among}
 use Rattle.seg_common.specs.declared.column_type.ColumnType.TheVariants.{Str}
 use Rattle.seg_values.specs.NameSearch.{Finds, longest_part, no_part, whole_name}
@@ -30,7 +31,7 @@ use Rattle.seg_column_file.specs.ColumnFiles.{ColumnFile, NamedColumn, is_select
 use Rattle.seg_column_format.specs.ModelColumns.{column_key}
 use Rattle.seg_fastfield.specs.Answers.{GoesBy, IsRefused}
 use Rattle.seg_fastfield.specs.ColumnNames.{FindsNotFast, IsNotFast, StandsFor, found_path, is_fast, path_in}
-use Rattle.seg_fastfield.specs.OpenFastFields.{FastFields, columns_at, first_of, or_first, str_column}
+use Rattle.seg_fastfield.specs.OpenFastFields.{FastFields, columns_at, str_column}
 use Rattle.seg_model.specs.Columns.{ColumnKey, column_cmp, declared_columns, declared_type, is_declared}
 use Rattle.seg_model.specs.Fields.{Schema, is_facet}
 use Rattle.seg_model.specs.Shape.{HasFullShape}
@@ -135,11 +136,11 @@ is_text (columns.Bool rows) same = absurd (cc same)
 is_text (columns.IpAddr rows) same = absurd (cc same)
 is_text (columns.DateTime rows) same = absurd (cc same)
 
-first_there : (o p : Option TermColumn) → is_some o ≡ true → is_some (or_first o p) ≡ true
+first_there : (o p : Option TermColumn) → is_some o ≡ true → is_some (option_or o p) ≡ true
 first_there None p h = absurd (false≢true h)
 first_there (Some t) p h = refl
 
-later_there : (o p : Option TermColumn) → is_some p ≡ true → is_some (or_first o p) ≡ true
+later_there : (o p : Option TermColumn) → is_some p ≡ true → is_some (option_or o p) ≡ true
 later_there None p h = h
 later_there (Some t) p h = refl
 
@@ -148,7 +149,7 @@ module _ (name : List ℕ) where
   texts_in cs = first_of (λ (c : StoredColumn). str_column c.column) (stored_where (is_selected false name) cs)
 
   abbrev chosen : Bool → NamedColumn → List NamedColumn → Option TermColumn
-  chosen b c cs = cond b (or_first (str_column (c.stored).column) (texts_in cs)) (texts_in cs)
+  chosen b c cs = cond b (option_or (str_column (c.stored).column) (texts_in cs)) (texts_in cs)
 
   texts_more : (c : NamedColumn) (cs : List NamedColumn) (b : Bool) → bytes_eq c.path name ≡ b
       → texts_in (c ∷ cs) ≡ chosen b c cs

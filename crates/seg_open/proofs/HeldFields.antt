@@ -37,17 +37,17 @@ module _ {Y : Type 0} where
       ∙ missed q k tie es (second_holds _ _ h)
 
   -- what is found after the first entry is found
-  found_behind : (e : List ℕ × Y) (es : List (List ℕ × Y)) → T (below_all (slice_cmp nat_cmp) e.0 es) → (k : List ℕ) (y : Y) → find (slice_cmp nat_cmp) k es ≡ Some y → (r : Ordering) → slice_cmp nat_cmp k e.0 ≡ r → find (slice_cmp nat_cmp) k (e ∷ es) ≡ Some y
-  found_behind e es below k y at Less is = ap (λ r. cond (is_eq r) (Some e.1) (find (slice_cmp nat_cmp) k es)) is ∙ at
-  found_behind e es below k y at Equal is = absurd (none-some y (sym (missed k e.0 is es below) ∙ at))
-  found_behind e es below k y at Greater is = ap (λ r. cond (is_eq r) (Some e.1) (find (slice_cmp nat_cmp) k es)) is ∙ at
+  found_after : (e : List ℕ × Y) (es : List (List ℕ × Y)) → T (below_all (slice_cmp nat_cmp) e.0 es) → (k : List ℕ) (y : Y) → find (slice_cmp nat_cmp) k es ≡ Some y → (r : Ordering) → slice_cmp nat_cmp k e.0 ≡ r → find (slice_cmp nat_cmp) k (e ∷ es) ≡ Some y
+  found_after e es below k y at Less is = ap (λ r. cond (is_eq r) (Some e.1) (find (slice_cmp nat_cmp) k es)) is ∙ at
+  found_after e es below k y at Equal is = absurd (none-some y (sym (missed k e.0 is es below) ∙ at))
+  found_after e es below k y at Greater is = ap (λ r. cond (is_eq r) (Some e.1) (find (slice_cmp nat_cmp) k es)) is ∙ at
 
   -- what holds of whatever is found holds of each entry
   of_each : (P : List ℕ → Y → Type 0) (es : List (List ℕ × Y)) → T (is_sorted (slice_cmp nat_cmp) es) → ((k : List ℕ) (y : Y) → find (slice_cmp nat_cmp) k es ≡ Some y → P k y) → AllByRecursion (λ (e : List ℕ × Y). P e.0 e.1) es
   of_each P [] s h = tt
   of_each P (e ∷ es) s h = (
     h e.0 e.1 (ap (λ r. cond (is_eq r) (Some e.1) (find (slice_cmp nat_cmp) e.0 es)) (tied_itself nat_list_cmp_total e.0)),
-    of_each P es (second_holds _ _ s) (λ k y at. h k y (found_behind e es (first_holds _ _ s) k y at (slice_cmp nat_cmp k e.0) refl)),
+    of_each P es (second_holds _ _ s) (λ k y at. h k y (found_after e es (first_holds _ _ s) k y at (slice_cmp nat_cmp k e.0) refl)),
   )
 
 -- ---- their form

@@ -24,7 +24,7 @@ use Rattle.seg_meta.specs.IndexOfFiles.{Deletes, ListedSegment}
 use Rattle.seg_meta.specs.Metas.{SegmentParts}
 use Rattle.seg_segment.specs.IndexForms.{segment_forms}
 use Rattle.seg_segment.specs.FileContents.{Holds}
-use Rattle.seg_segment.specs.AliveFiles.{HoldsAlive}
+use Rattle.seg_segment.specs.AliveFiles.{HoldsAlive, HoldsMarks}
 use Rattle.seg_segment.specs.SegmentFiles.{HasFiles}
 use Rattle.seg_segment.specs.SegmentReadSteps.{IsNoDamage, IsReadError}
 use Rattle.seg_segment.proofs.Exports.{FindWhole, FindsDamage, OnlyReads, Unchanged, found_whole, is_there, reads_both, reads_rose, reads_so, reads_stay, suits_both, whole_both, same_state, then_same}
@@ -96,11 +96,6 @@ pub record IsOf (x : Asked) (s : OpenSegment) : Type 0 where
 one_of : (x : Asked) (f : Found) (s : OpenSegment) → IsReaderOf x f s → IsOf x s
 one_of x f s is =
     record { of_id = is.has.of_id; of_schema = is.has.of_schema; of_number = is.has.of_number; shape = is.has.spell.shape }
-
--- the alive file holds these marks; without deletes all are alive
-abbrev pub HoldsMarks : NamedFiles → ℕ → ℕ → Option Deletes → List Bool → Type 0
-HoldsMarks files id documents None alive = alive ≡ replicate documents true
-HoldsMarks files id documents (Some d) alive = HoldsAlive files id d.stamp documents alive
 
 -- it is as the files hold it, and of the documents that are alive there it has those that are asked for
 pub record IsHeld (files : NamedFiles) (x : Asked) (s : OpenSegment) : Type 0 where

@@ -2,12 +2,13 @@
 use Rattle.std.specs.Prelude.{◌≡◌, ◌⊎◌, ℕ, List, Bool, true, false, Option, Some, None}
 use Rattle.std.specs.List.{slice_get}
 use Rattle.std.specs.Option.{option_map}
+use Rattle.seg_model.specs.DocumentCheck.{first_of}
 use Rattle.seg_values.specs.FieldNames.{field_named}
 use Rattle.seg_values.specs.declared.error.SchemaCause.TheVariants.{NotFacet}
 use Rattle.seg_values.specs.declared.error.TantivyError.{TantivyError}
 use Rattle.seg_values.specs.declared.error.TantivyError.TheVariants.{FieldNotFound, OutOfMemory, SchemaError}
 use Rattle.seg_columns.specs.TermColumns.{TermColumn}
-use Rattle.seg_fastfield.specs.OpenFastFields.{columns_at, first_of, str_column}
+use Rattle.seg_fastfield.specs.OpenFastFields.{columns_at, str_column}
 use Rattle.seg_model.specs.Fields.{Schema, is_facet}
 use Rattle.seg_open.specs.OpenSegment.{OpenSegment}
 

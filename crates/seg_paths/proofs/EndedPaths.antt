@@ -7,7 +7,7 @@ use Rattle.std.proofs.lemmas.Bool.Decides.{nat_tests}
 use Rattle.seg_model.specs.DocumentCheck.{has_no_zero}
 use Rattle.seg_paths.proofs.ZeroFreeKeys.{no_zero-cons}
 
-abbrev first : List ℕ → ℕ
+abbrev pub first : List ℕ → ℕ
 first bytes = get_or bytes 0 0
 
 -- the path and what is after it are told apart

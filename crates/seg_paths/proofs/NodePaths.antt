@@ -1,10 +1,12 @@
 -- The paths of nodes.
 use Rattle.std.proofs.Common.{◌≡◌, ℕ, zero, suc, ◌+◌, ◌<◌, ◌≤◌, ◌^◌, Bool, true, false, cond, List, [], ◌∷◌, ◌++◌, length, get_or, drop, Option, Some, None, position, append_assoc, refl, sym, ap, ◌∙◌, subst, arith}
-use Rattle.std.specs.Prelude.{Result, Ok, Err, IfOk, OnErr}
+use Rattle.std.specs.Prelude.{Result, Ok, Err, IfOk, OnErr, IsTrue, nat_eq}
 use Rattle.std.specs.Cmp.Lexicographic.{bytes_decides, nat_list_eq_equiv}
 use Rattle.std.specs.List.{IsDistinct, list_any}
+use Rattle.std.specs.Option.{option_eq}
 use Rattle.std.specs.Str.{bytes_eq}
-use Rattle.std.proofs.lemmas.Bool.{false≢true, or_from, or_parts}
+use Rattle.std.proofs.lemmas.Bool.{false≢true, and_parts, or_from, or_parts}
+use Rattle.std.proofs.lemmas.Bool.Decides.{Decides-eqb}
 use Rattle.std.proofs.lemmas.List.{get_or_append_left, length-append, length_push}
 use Rattle.std.proofs.lemmas.List.Folds.{list_any-append}
 use Rattle.std.proofs.lemmas.List.Quantifiers.{position-Some}
@@ -12,8 +14,9 @@ use Rattle.std.proofs.lemmas.Map.Keys.{IsDistinct-push}
 use Rattle.std.proofs.Math.Seq.{get_or-append_seam}
 use Rattle.std.specs.declared.alloc.AllocError.{AllocError}
 use Rattle.indexmap.specs.IndexSet.{insert_key}
-use Rattle.seg_paths.specs.Nodes.{Node, node_path, paths_with, IsPart, IsSound, AreSound, node_eq, node_eq_equiv, node_same}
+use Rattle.seg_paths.specs.Nodes.{Node, node_path, paths_with, IsPart, IsSound, AreSound, node_eq, node_eq_equiv}
 use Rattle.seg_paths.specs.Paths.{number_of, Extends, IsAbove, below}
+use Rattle.seg_paths.proofs.EndedPaths.{first}
 use Rattle.seg_paths.proofs.PathNumbers.{number-from, same_place, extends-refl, extends-trans}
 
 -- ---- below a path
@@ -37,9 +40,6 @@ below-append paths None xs ys = refl
 below-append paths (Some n) xs ys = sym (append_assoc (get_or paths n []) (1 ∷ xs) ys)
 
 -- ---- the last part of a path
-
-abbrev first : List ℕ → ℕ
-first bytes = get_or bytes 0 0
 
 -- no byte 1 is in a part
 no_one_in : (xs part rest : List ℕ) → IsPart part → part ≡ xs ++ 1 ∷ rest → ⊥
@@ -106,7 +106,7 @@ path-at before (n ∷ ns) zero j d sound lt is =
     ∙ get_or_append_left next more.0 [] j (omega (arith, here, many))
     ∙ ap (λ i. get_or next i []) here
     ∙ get_or-append_seam before (node_path before n) [] []
-    ∙ sym (below-kept before final n.above n.part (paths-extend before (n ∷ ns)) sound.0.above)
+    ∙ sym (below-kept before final n.head n.bytes (paths-extend before (n ∷ ns)) sound.0.above)
 path-at before (n ∷ ns) (suc k) j d sound lt is =
     path-at (before ++ node_path before n ∷ []) ns k j d sound.1 (omega (arith, lt)) (omega (
       arith,
@@ -116,8 +116,21 @@ path-at before (n ∷ ns) (suc k) j d sound lt is =
 
 -- ---- a node that is there
 
-node_eq-from : (m n : Node) → m.above ≡ n.above → m.part ≡ n.part → node_eq m n ≡ true
-node_eq-from m n above part = sym (λ i. node_eq m (record { above = above i; part = part i })) ∙ node_eq_equiv.refl m
+same_head : (a b : Option ℕ) → option_eq nat_eq a b ≡ true → a ≡ b
+same_head None None h = refl
+same_head None (Some m) h = absurd (false≢true h)
+same_head (Some n) None h = absurd (false≢true h)
+same_head (Some n) (Some m) h = ap Some ((Decides-eqb n m).0 h)
+
+node_same : (m n : Node) → IsTrue (node_eq m n) → m ≡ n
+node_same m n h =
+    let both = and_parts (option_eq nat_eq m.head n.head) (bytes_eq m.bytes n.bytes) h in
+    let head = same_head m.head n.head both.0 in
+    let bytes = (bytes_decides m.bytes n.bytes).0 both.1 in
+    λ i. record { head = head i; bytes = bytes i }
+
+node_eq-from : (m n : Node) → m.head ≡ n.head → m.bytes ≡ n.bytes → node_eq m n ≡ true
+node_eq-from m n above part = sym (λ i. node_eq m (record { head = above i; bytes = part i })) ∙ node_eq_equiv.refl m
 
 -- the number of its path is its place
 pub known-node : (ns : List Node) (paths : List (List ℕ)) (m : Node) (n : ℕ) → paths_with [] ns ≡ paths
@@ -143,10 +156,10 @@ module _ (final : List (List ℕ)) (distinct : IsDistinct bytes_eq final) (m : N
           → bytes_eq (node_path final m) (node_path before n) ≡ false
       by_case false e = e
       by_case true e =
-          let same = same_parts final distinct m.above n.above m.part n.part sound.above
-          (above-kept before final n.above more is.above) sound.part is.part
+          let same = same_parts final distinct m.head n.head m.bytes n.bytes sound.above
+          (above-kept before final n.head more is.above) sound.part is.part
           ((bytes_decides (node_path final m) (node_path before n)).0 e
-          ∙ sym (below-kept before final n.above n.part more is.above)) in
+          ∙ sym (below-kept before final n.head n.bytes more is.above)) in
           absurd (false≢true (sym apart ∙ node_eq-from m n same.0 same.1))
 
   not_among : (before : List (List ℕ)) (ns : List Node) → final ≡ paths_with before ns → AreSound before ns

@@ -56,7 +56,7 @@ pub no_zero-paths : (before : List (List ℕ)) (ns : List Node) → HaveNoZero b
     → HaveNoZero (paths_with before ns)
 no_zero-paths before [] h sound = h
 no_zero-paths before (n ∷ ns) h sound = no_zero-paths (before ++ node_path before n ∷ []) ns
-    (all-push before (node_path before n) h (no_zero-below before n.above n.part h sound.0.part)) sound.1
+    (all-push before (node_path before n) h (no_zero-below before n.head n.bytes h sound.0.part)) sound.1
 
 -- ---- the keys of a value that a JSON field takes
 

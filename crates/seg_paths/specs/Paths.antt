@@ -22,14 +22,19 @@ IsAbove paths None = Unit {0}
 IsAbove paths (Some number) = number < length paths
 
 -- what bytes add to the path above them: at the top there is none
-abbrev pub behind : Option ℕ → List ℕ → List ℕ
-behind None bytes = bytes
-behind (Some number) bytes = 1 ∷ bytes
+abbrev pub added : Option ℕ → List ℕ → List ℕ
+added None bytes = bytes
+added (Some number) bytes = 1 ∷ bytes
 
 -- the path of these bytes below a path, or at the top
 abbrev pub below : List (List ℕ) → Option ℕ → List ℕ → List ℕ
 below paths None bytes = bytes
 below paths (Some number) bytes = slice_index_or paths number [] ++ 1 ∷ bytes
+
+-- what something is below, as one number: 0 is the top, and n + 1 the path with the number n
+abbrev pub slot_of : Option ℕ → ℕ
+slot_of None = 0
+slot_of (Some number) = suc number
 
 -- ---- from a path up to those above it
 
@@ -38,13 +43,8 @@ abbrev pub up : List (List ℕ) → Option ℕ → List ℕ
 up paths None = []
 up paths (Some number) = slice_index_or paths number []
 
--- how many paths there can be from there up
-abbrev pub steps : Option ℕ → ℕ
-steps None = 0
-steps (Some number) = suc number
-
 -- a path is the one above it with what was added, from its end on
 pub record StepsUp (paths : List (List ℕ)) (number : ℕ) (above : Option ℕ) (old new : List ℕ) : Type 0 where
   pub within : IsAbove paths above
-  pub fewer : steps above < suc number
+  pub fewer : slot_of above < suc number
   pub same : up paths above ++ reverse new ≡ slice_index_or paths number [] ++ reverse old

@@ -2,16 +2,18 @@
 ghost use Rattle.std.specs.Prelude.{◌≡◌, ◌<◌, ◌^◌, [], ◌∷◌, ◌++◌, Some, true, false, length, slice_get, IfOk, OnErr};
 ghost use Rattle.std.specs.List.{IsDistinct, list_any};
 ghost use Rattle.std.specs.Str.{bytes_eq};
+ghost use Rattle.seg_column_format.specs.CompositeKeys.{asked};
 ghost use Rattle.seg_common.specs.JsonPaths.{written_key};
 ghost use Rattle.seg_model.specs.DocumentCheck.{has_no_zero};
-ghost use Rattle.seg_paths.specs.Nodes.{IsPart, asked, node_eq};
+ghost use Rattle.seg_paths.specs.Nodes.{IsPart, node_eq};
 ghost use Rattle.seg_paths.specs.Ranks.{AreRanks};
 ghost use Rattle.seg_paths.specs.Paths.{Extends, HaveNoZero, IsAbove, StepsUp, below, number_of};
 
 use crate::cut::first_cut;
-use crate::node::{NodeParts, PathNode};
+use crate::node::{PathNode, push_reversed};
 use crate::ranks::node_ranks;
 use indexmap::IndexSet;
+use seg_column_format::CompositeKeyParts;
 use std::alloc::{AllocError, Global};
 use std::marker::Model;
 
@@ -88,8 +90,8 @@ impl PathTable {
     {
         let nodes = self.nodes.as_slice();
         let node = &nodes[number as usize];
-        node.push_reversed(alloc, out)?;
-        Ok(node.above())
+        push_reversed(alloc, node, out)?;
+        Ok(node.head())
     }
 
     /// The number of the empty path, which a value has that is below no key.
@@ -121,8 +123,8 @@ impl PathTable {
             let (part, _) = rest.split_at(end);
             let number = self.add_part(alloc, place, part)?;
             place = Some(number);
-            let (_, behind) = rest.split_at(end + 1);
-            rest = behind;
+            let (_, after) = rest.split_at(end + 1);
+            rest = after;
         }
         self.add_part(alloc, place, rest)
     }
@@ -139,7 +141,10 @@ impl PathTable {
         ensures extends { Extends self.old self.new }
         ensures number { IfOk result (λ number. number_of self.new (below self.old above part.now) ≡ Some number) }
     {
-        let node = NodeParts { above, part };
+        let node = CompositeKeyParts {
+            head: above,
+            bytes: part,
+        };
         let Some(number) = self.nodes.get_index_of(node) else {
             return push_node(&mut self.nodes, alloc, node);
         };
@@ -151,7 +156,7 @@ impl PathTable {
 fn push_node(
     nodes: &mut IndexSet<PathNode>,
     alloc: Global,
-    node: NodeParts<'_>,
+    node: CompositeKeyParts<'_, Option<u32>>,
 ) -> Result<u32, AllocError>
     requires { list_any (node_eq (asked node)) nodes.old.keys ≡ false }
     ensures ok { IfOk result (λ number. (number ≡ length nodes.old.keys) × (number < 2 ^ 32)

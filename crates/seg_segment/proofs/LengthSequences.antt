@@ -64,8 +64,8 @@ module _ (fs : List ℕ) (i f : ℕ) (lt : i < length fs) (is : f ≡ get_or fs 
 
 ascend_by : (b : Bool) (low n : ℕ) (rest : List ℕ) → low ≤ n → n < 2 ^ 32 - 1 → AscendFrom (n + 1) rest
     → (b ≡ false → AscendFrom low rest) → AscendFrom low (cond b (n ∷ []) [] ++ rest)
-ascend_by true low n rest le lt behind without = (le, lt, behind)
-ascend_by false low n rest le lt behind without = without refl
+ascend_by true low n rest le lt later without = (le, lt, later)
+ascend_by false low n rest le lt later without = without refl
 
 selected_ascend : (low n : ℕ) (es : List FieldEntry) → low ≤ n → n + length es < 2 ^ 32 - 1
     → AscendFrom low (selected n es)

@@ -9,6 +9,8 @@ mod ListTails
 mod MadeFiles
 mod ReadFiles
 mod ReadOnlySteps
+mod ReadTerms
+mod SameErrors
 mod SegmentReads
 mod SpelledFiles
 mod TokenTotals

@@ -89,9 +89,9 @@ tails : {X : Type 0} (x y : X) (xs ys : List X) → (let l : List X = x ∷ xs i
 tails x y xs ys e = cc
 
 module _ {X : Type 0} (F G : ℕ → X) where
-  behind : (b : Bool) (n : ℕ) (rest : List ℕ) → map F (cond b (n ∷ []) [] ++ rest) ≡ map G (cond b (n ∷ []) [] ++ rest) → map F rest ≡ map G rest
-  behind true n rest h = tails (F n) (G n) (map F rest) (map G rest) h
-  behind false n rest h = h
+  later : (b : Bool) (n : ℕ) (rest : List ℕ) → map F (cond b (n ∷ []) [] ++ rest) ≡ map G (cond b (n ∷ []) [] ++ rest) → map F rest ≡ map G rest
+  later true n rest h = tails (F n) (G n) (map F rest) (map G rest) h
+  later false n rest h = h
 
   ahead : (b : Bool) (n : ℕ) (rest : List ℕ) → b ≡ true → map F (cond b (n ∷ []) [] ++ rest) ≡ map G (cond b (n ∷ []) [] ++ rest) → F n ≡ G n
   ahead true n rest on h = heads (F n) (G n) (map F rest) (map G rest) h
@@ -103,7 +103,7 @@ module _ {X : Type 0} (F G : ℕ → X) where
   at_selected n zero (x ∷ xs) e at on h =
       ap F (omega arith) ∙ ahead (has_lengths x) n (selected (n + 1) xs) (ap has_lengths (same_Some x e at) ∙ on) h ∙ ap G (omega arith)
   at_selected n (suc i) (x ∷ xs) e at on h =
-      ap F (omega arith) ∙ at_selected (n + 1) i xs e at on (behind (has_lengths x) n (selected (n + 1) xs) h) ∙ ap G (omega arith)
+      ap F (omega arith) ∙ at_selected (n + 1) i xs e at on (later (has_lengths x) n (selected (n + 1) xs) h) ∙ ap G (omega arith)
 
 one_norms : (schema : Schema) (xs ys : List (List ℕ)) (i : ℕ) (e : FieldEntry) → slice_get schema i ≡ Some e → has_lengths e ≡ true → norms_parts schema xs ≡ norms_parts schema ys → slice_index_or xs i [] ≡ slice_index_or ys i []
 one_norms schema xs ys i e at on h =

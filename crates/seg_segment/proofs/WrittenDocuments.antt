@@ -72,14 +72,14 @@ module _ (kind : RecordKind) (r : Recorded) (count : ℕ) (places : List ℕ) (i
 
 -- what is known of the last one of some postings
 record IsLast (kind : RecordKind) (least : ℕ) (p : Posting) : Type 0 where
-  behind : least ≤ p.document
+  later : least ≤ p.document
   limit : p.document < 2 ^ 32 - 1
   keeps : kind_kept p.recorded ≡ kind
   occurs : 1 ≤ count_of p.recorded
 
 last_of : (kind : RecordKind) (least : ℕ) (ps : List Posting) (p : Posting) → AscendBy kind least (ps ++ p ∷ [])
     → IsLast kind (next_document least ps) p
-last_of kind least [] p up = record { behind = up.0; limit = up.1; keeps = up.2; occurs = up.3 }
+last_of kind least [] p up = record { later = up.0; limit = up.1; keeps = up.2; occurs = up.3 }
 last_of kind least (q ∷ ps) p up = last_of kind (q.document + 1) ps p up.4
 
 -- a term that is open is the one with its postings
@@ -126,7 +126,7 @@ module _ (bytes : List ℕ) (kind : RecordKind) (document count : ℕ) (places :
       let last = last_of (kind_kept b.first.recorded) 0 (b.first ∷ b.rest) news up in
       record {
         keeps = ap (λ (x : TermWritten). x.kind) b.is ∙ sym last.keeps ∙ kind_is kind count places;
-        ascends = subst (λ (qs : List Posting). next_document 0 qs ≤ document) (sym b.postings) last.behind;
+        ascends = subst (λ (qs : List Posting). next_document 0 qs ≤ document) (sym b.postings) last.later;
         limit = last.limit;
         occurs = last.occurs;
       }

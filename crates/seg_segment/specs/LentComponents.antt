@@ -11,7 +11,7 @@ use Rattle.seg_store.specs.contracts.store_writer.StoreWriter.{the_row as store_
 use Rattle.seg_segment.specs.SegmentSerializers.{Serializing}
 use Rattle.seg_segment.specs.contracts.segment_serializer.SegmentSerializer.{the_row}
 
--- the serializer ends with the postings that were left behind the reference
+-- once the loan is over the serializer has the postings that were left there
 abbrev pub LendsPostings : MutBor Serializing → MutBor (Option FieldFiles) → Fml
 LendsPostings s r = Lends the_row postings_row s r (λ postings. record s.now { postings = postings })
 

@@ -3,9 +3,9 @@ use Rattle.std.specs.Prelude.{◌≡◌, ℕ, ◌≤◌, ◌<◌, List, Bool, tr
 use Rattle.seg_model.specs.Operations.{kept}
 
 -- those after the first n documents
-abbrev pub alive_behind : {X : Type 0} → ℕ → Option (List Bool) → List X → List X
-alive_behind n None documents = drop n documents
-alive_behind n (Some set) documents = kept (drop n set) (drop n documents)
+abbrev pub alive_from : {X : Type 0} → ℕ → Option (List Bool) → List X → List X
+alive_from n None documents = drop n documents
+alive_from n (Some set) documents = kept (drop n set) (drop n documents)
 
 -- whether a document is alive
 abbrev pub alive_at : Option (List Bool) → ℕ → Bool

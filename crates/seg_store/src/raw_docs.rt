@@ -1,7 +1,7 @@
 //! The stored bytes of documents, one after another.
 ghost use Rattle.std.specs.Prelude.{◌≡◌, ◌<◌, ◌≤◌, ◌+◌, ℕ, length, take, true, false, option_map, MatchOption};
 ghost use Rattle.std.specs.Iterator.{YieldsFirst, item_count};
-ghost use Rattle.seg_store.specs.AliveDocuments.{alive_at, alive_behind, IsFirstAlive};
+ghost use Rattle.seg_store.specs.AliveDocuments.{alive_at, alive_from, IsFirstAlive};
 ghost use Rattle.seg_store.specs.Store.{is_store, blocks_of, raw_documents, document_count};
 
 use crate::checkpoint::checkpoint_at;
@@ -24,12 +24,12 @@ pub struct RawDocs<'a> {
 
 impl<'a> Model for RawDocs<'a> {
     ghost use Rattle.std.specs.Prelude.{◌≡◌, ◌≤◌, ℕ, List, true, length, take, option_map};
-    ghost use Rattle.seg_store.specs.AliveDocuments.{alive_behind};
+    ghost use Rattle.seg_store.specs.AliveDocuments.{alive_from};
     ghost use Rattle.seg_store.specs.Store.{is_store, blocks_of, raw_documents, document_count};
 
     ghost Value = { List (List ℕ) };
 
-    ghost view = { λ it. alive_behind it.doc (option_map (λ set. set.now) it.alive)
+    ghost view = { λ it. alive_from it.doc (option_map (λ set. set.now) it.alive)
         (raw_documents (blocks_of it.bytes.now)) };
 
     ghost invariant = { λ it. (is_store it.bytes.now ≡ true) × (it.total ≡ document_count (blocks_of it.bytes.now))
@@ -46,7 +46,7 @@ impl<'a> RawDocs<'a> {
         requires store { is_store bytes.now ≡ true }
         requires total { total ≡ document_count (blocks_of bytes.now) }
         ensures { result
-            ≡ alive_behind 0 (option_map (λ set. set.now) alive.entry) (raw_documents (blocks_of bytes.now)) }
+            ≡ alive_from 0 (option_map (λ set. set.now) alive.entry) (raw_documents (blocks_of bytes.now)) }
     {
         RawDocs {
             bytes,

@@ -1,7 +1,7 @@
 //! The reader of stores.
 ghost use Rattle.std.specs.Prelude.{◌≡◌, ◌<◌, ◌≤◌, ◌+◌, ◌*◌, List, true, false, length, take, Some, None, option_map, IfOk, IfErr, MatchResult};
 ghost use Rattle.std.specs.List.{slice_get};
-ghost use Rattle.seg_store.specs.AliveDocuments.{alive_behind};
+ghost use Rattle.seg_store.specs.AliveDocuments.{alive_from};
 ghost use Rattle.seg_store.specs.Block.{Block, is_block, documents_in};
 ghost use Rattle.seg_store.specs.Cache.{block_of};
 ghost use Rattle.seg_store.specs.CheckedFields.{is_store_of, may_have};
@@ -197,7 +197,7 @@ impl StoreReader {
     /// The bytes of the documents that are alive in a set, of all without one, in order. One past the set's size is
     /// dead.
     pub fn iter_raw<'a>(&'a self, alive: Option<&'a ReadOnlyBitSet>) -> RawDocs<'a>
-        ensures { result ≡ alive_behind 0 (option_map (λ set. set.now) alive.entry) (raw_documents self.now) }
+        ensures { result ≡ alive_from 0 (option_map (λ set. set.now) alive.entry) (raw_documents self.now) }
     {
         RawDocs::new(&self.bytes, alive, self.num_docs())
     }

@@ -1,6 +1,6 @@
 -- Occurrences of numbered terms, with one more.
 use Rattle.std.proofs.Common.{◌≡◌, ◌≢◌, ℕ, zero, suc, ◌+◌, ◌^◌, ◌<◌, ◌≤◌, Bool, true, false, cond, List, [], ◌∷◌, ◌++◌, map, length, get_or, Some, None, Option, sym, refl, ap, subst, ◌∙◌, arith, is_some, unwrap_or}
-use Rattle.std.specs.Prelude.{filter, nat_eq, not, ◌||◌, Result, Ok, Err, OnOk}
+use Rattle.std.specs.Prelude.{filter, nat_eq, ◌||◌, Result, Ok, Err, OnOk}
 use Rattle.std.specs.Cmp.Lexicographic.{bytes_decides}
 use Rattle.std.specs.List.{list_any, position}
 use Rattle.std.specs.Str.{bytes_eq}
@@ -10,13 +10,14 @@ use Rattle.std.proofs.lemmas.Bool.{false≢true, or_parts}
 use Rattle.std.proofs.lemmas.Bool.Decides.{Decides-eqb}
 use Rattle.std.proofs.lemmas.List.{length_push}
 use Rattle.std.proofs.lemmas.List.Quantifiers.{position-Some}
-use Rattle.std.proofs.lemmas.List.Sums.{fails_before_first, passes_at_first, position_or_len_is}
-use Rattle.indexmap.specs.IndexSet.{insert_key}
+use Rattle.std.proofs.lemmas.List.Sums.{fails_before_first, passes_at_first}
 use Rattle.seg_model.specs.DocumentTerms.{Posting, Terms}
+use Rattle.seg_column_format.specs.NumberedTerms.{term_number, with_term}
+use Rattle.seg_column_format.proofs.TermNumbers.{term_number-new, term_within}
 use Rattle.seg_terms.specs.AddedOccurrences.{with_position, with_occurrence}
 use Rattle.seg_terms.specs.TermEntries.{TermEntries}
 use Rattle.seg_terms.specs.PostingGroups.{grouped}
-use Rattle.seg_terms.specs.TermsByKey.{AreKnown, IsAdded, key_number, with_key}
+use Rattle.seg_terms.specs.TermsByKey.{AreKnown, IsAdded}
 use Rattle.seg_terms.specs.NumberedOccurrences.{hits_of, AreBelow, numbered_from, numbered_terms}
 use Rattle.seg_terms.specs.declared.hit.Hit.{Hit}
 use Rattle.seg_terms.specs.declared.hit.NumberedHit.{NumberedHit}
@@ -96,24 +97,24 @@ IsFirstAt-position bs n keys is = let p = position-Some (bytes_eq bs) keys n [] 
     IsFirstAt-from bs n keys p.0 p.1 p.2
 
 module _ (h : Hit) where
-  found_here : (qb qk bk : Bool) (old : List Posting) (rest behind : Option (List Posting)) → qb ≡ qk → bk ≡ true
+  found_here : (qb qk bk : Bool) (old : List Posting) (rest following : Option (List Posting)) → qb ≡ qk → bk ≡ true
       → cond qk (Some (with_hit h old)) rest
-      ≡ cond qb (Some (with_hit h (unwrap_or (cond bk (Some old) behind) []))) (cond qk (Some old) rest)
-  found_here true true true old rest behind a b = refl
-  found_here true true false old rest behind a b = absurd (false≢true b)
-  found_here false false bk old rest behind a b = refl
-  found_here true false bk old rest behind a b = absurd (false≢true (sym a))
-  found_here false true bk old rest behind a b = absurd (false≢true a)
+      ≡ cond qb (Some (with_hit h (unwrap_or (cond bk (Some old) following) []))) (cond qk (Some old) rest)
+  found_here true true true old rest following a b = refl
+  found_here true true false old rest following a b = absurd (false≢true b)
+  found_here false false bk old rest following a b = refl
+  found_here true false bk old rest following a b = absurd (false≢true (sym a))
+  found_here false true bk old rest following a b = absurd (false≢true a)
 
-  found_behind : (qb qk bk : Bool) (old : List Posting) (new rest behind : Option (List Posting))
+  found_after : (qb qk bk : Bool) (old : List Posting) (new rest following : Option (List Posting))
       → (qb ≡ true → qk ≡ false) → bk ≡ false
-      → new ≡ cond qb (Some (with_hit h (unwrap_or behind []))) rest
-      → cond qk (Some old) new ≡ cond qb (Some (with_hit h (unwrap_or (cond bk (Some old) behind) [])))
+      → new ≡ cond qb (Some (with_hit h (unwrap_or following []))) rest
+      → cond qk (Some old) new ≡ cond qb (Some (with_hit h (unwrap_or (cond bk (Some old) following) [])))
       (cond qk (Some old) rest)
-  found_behind qb qk true old new rest behind a b is = absurd (false≢true (sym b))
-  found_behind true true false old new rest behind a b is = absurd (false≢true (sym (a refl)))
-  found_behind false true false old new rest behind a b is = refl
-  found_behind qb false false old new rest behind a b is = is
+  found_after qb qk true old new rest following a b is = absurd (false≢true (sym b))
+  found_after true true false old new rest following a b is = absurd (false≢true (sym (a refl)))
+  found_after false true false old new rest following a b is = refl
+  found_after qb false false old new rest following a b is = is
 
 -- one more occurrence of the term with the number n
 lookup-added : (first n : ℕ) (keys : List (List ℕ)) (hits : List NumberedHit) (h : NumberedHit) (bs q : List ℕ)
@@ -136,7 +137,7 @@ lookup-added first (suc n) (k ∷ ks) hits h bs q at is =
     let rest = lookup-added (first + 1) n ks hits h bs q at.1 (omega (arith, is)) in
     ap (λ l. cond (bytes_eq q k) (Some (grouped l))
     (lookup (bytes_eq q) (numbered_from (first + 1) ks (hits ++ h ∷ [])))) same
-    ∙ found_behind h.hit (bytes_eq q bs) (bytes_eq q k) (bytes_eq bs k) (grouped (hits_of first hits)) _
+    ∙ found_after h.hit (bytes_eq q bs) (bytes_eq q k) (bytes_eq bs k) (grouped (hits_of first hits)) _
     (lookup (bytes_eq q) (numbered_from (first + 1) ks hits))
     (lookup (bytes_eq bs) (numbered_from (first + 1) ks hits))
     (λ t. ap (λ x. bytes_eq x k) ((bytes_decides q bs).0 t) ∙ at.0) at.0 rest
@@ -278,11 +279,6 @@ AreBelow-push count (g ∷ hits) h below lt = (below.0, AreBelow-push count hits
 
 -- ---- a key that is new
 
-pub keys_pushed : (keys keys' : List (List ℕ)) (key bs : List ℕ) → key ≡ bs → list_any (bytes_eq bs) keys ≡ false
-    → keys' ≡ insert_key bytes_eq keys key → keys' ≡ keys ++ bs ∷ []
-keys_pushed keys keys' key bs same none is = is ∙ ap (insert_key bytes_eq keys) same
-    ∙ ap (λ b. cond b keys (keys ++ bs ∷ [])) none
-
 pub still_numbered : (keys keys' : List (List ℕ)) (hits hits' : List NumberedHit) (bs : List ℕ) (h : NumberedHit)
     → keys' ≡ keys ++ bs ∷ [] → hits' ≡ hits ++ h ∷ [] → h.term ≡ length keys → h.term < 2 ^ 32
     → AreBelow (length keys) hits
@@ -297,80 +293,32 @@ still_numbered keys keys' hits hits' bs h with_key with_hit is small below =
 
 -- ---- the keys with one that may be among them
 
-any_from_place : (keys : List (List ℕ)) (bs : List ℕ) (n : ℕ) → IsFirstAt bs n keys → list_any (bytes_eq bs) keys ≡ true
-any_from_place [] bs n at = absurd at
-any_from_place (k ∷ ks) bs zero at = ap (λ b. b || list_any (bytes_eq bs) ks) at
-any_from_place (k ∷ ks) bs (suc n) at = ap (λ b. b || list_any (bytes_eq bs) ks) at.0 ∙ any_from_place ks bs n at.1
-
-pub with_key-there : (keys : List (List ℕ)) (bs : List ℕ) (n : ℕ) → position (bytes_eq bs) keys ≡ Some n
-    → with_key keys bs ≡ keys
-with_key-there keys bs n is = ap (λ b. cond b keys (keys ++ bs ∷ []))
-    (any_from_place keys bs n (IsFirstAt-position bs n keys is))
-
-pub with_key-new : (keys : List (List ℕ)) (bs : List ℕ) → list_any (bytes_eq bs) keys ≡ false
-    → with_key keys bs ≡ keys ++ bs ∷ []
-with_key-new keys bs none = ap (λ b. cond b keys (keys ++ bs ∷ [])) none
-
-pub key_number-there : (keys : List (List ℕ)) (bs : List ℕ) (n : ℕ) → position (bytes_eq bs) keys ≡ Some n
-    → key_number keys bs ≡ n
-key_number-there keys bs n is =
-    let found = position-Some (bytes_eq bs) keys n [] is in
-    position_or_len_is (bytes_eq bs) keys n [] (omega (arith, found.0)) found.2 (λ _. found.1)
-
-none_at : (keys : List (List ℕ)) (bs : List ℕ) (k : ℕ) → list_any (bytes_eq bs) keys ≡ false → k < length keys
-    → bytes_eq bs (get_or keys k []) ≡ false
-none_at [] bs k none lt = absurd (omega (arith, lt))
-none_at (x ∷ xs) bs zero none lt = (or_parts (bytes_eq bs x) (list_any (bytes_eq bs) xs) none).0
-none_at (x ∷ xs) bs (suc k) none lt =
-    none_at xs bs k (or_parts (bytes_eq bs x) (list_any (bytes_eq bs) xs) none).1 (omega (arith, lt))
-
-pub key_number-new : (keys : List (List ℕ)) (bs : List ℕ) → list_any (bytes_eq bs) keys ≡ false
-    → key_number keys bs ≡ length keys
-key_number-new keys bs none = position_or_len_is (bytes_eq bs) keys (length keys) [] (omega arith)
-    (λ k lt. none_at keys bs k none lt) (λ lt. absurd (omega (arith, lt)))
-
-place-within : (bs : List ℕ) (keys : List (List ℕ)) → list_any (bytes_eq bs) keys ≡ true
-    → key_number keys bs < length keys
-place-within bs [] there = absurd (false≢true there)
-place-within bs (k ∷ ks) there = by (bytes_eq bs k) refl there (place-within bs ks)
-  where
-    by : (b : Bool) → bytes_eq bs k ≡ b → (b || list_any (bytes_eq bs) ks) ≡ true
-        → (list_any (bytes_eq bs) ks ≡ true → key_number ks bs < length ks)
-        → key_number (k ∷ ks) bs < length (k ∷ ks)
-    by true e h rest =
-        let none : key_number (k ∷ ks) bs ≡ 0 = ap (λ b. cond (not b) (1 + key_number ks bs) 0) e in
-        omega (arith, none)
-    by false e h rest =
-        let more : key_number (k ∷ ks) bs ≡ 1 + key_number ks bs = ap (λ b. cond (not b) (1 + key_number ks bs) 0) e in
-        let within = rest h in
-        omega (arith, more, within)
-
 -- a key that is there is at its number
 first_at : (keys : List (List ℕ)) (bs : List ℕ) → list_any (bytes_eq bs) keys ≡ true
-    → IsFirstAt bs (key_number keys bs) keys
+    → IsFirstAt bs (term_number keys bs) keys
 first_at keys bs there =
-    let within = place-within bs keys there in
-    IsFirstAt-from bs (key_number keys bs) keys within (passes_at_first (bytes_eq bs) keys [] within)
+    let within = term_within keys bs there in
+    IsFirstAt-from bs (term_number keys bs) keys within (passes_at_first (bytes_eq bs) keys [] within)
     (λ k lt. fails_before_first (bytes_eq bs) keys k [] lt)
 
 -- one more occurrence, whether its term is new or not
 pub added_by_key : (keys : List (List ℕ)) (hits : List NumberedHit) (old : Terms) → numbered_terms keys hits ≡ old
     → AreBelow (length keys) hits → (bs : List ℕ) (h : Hit)
-    → numbered_terms (with_key keys bs) (hits ++ record { term = key_number keys bs; hit = h } ∷ [])
+    → numbered_terms (with_term keys bs) (hits ++ record { term = term_number keys bs; hit = h } ∷ [])
     ≡ with_occurrence old h.document (record { bytes = bs; position = h.position })
 added_by_key keys hits old seen below bs h = by (list_any (bytes_eq bs) keys) refl
   where
     by : (b : Bool) → list_any (bytes_eq bs) keys ≡ b → numbered_terms (cond b keys (keys ++ bs ∷ [])) (hits ++ record {
-      term = key_number keys bs;
+      term = term_number keys bs;
       hit = h;
     } ∷ []) ≡ with_occurrence old h.document (record { bytes = bs; position = h.position })
     by true e =
-        from_lookups keys keys hits (record { term = key_number keys bs; hit = h }) bs (λ q.
-        lookup-added 0 (key_number keys bs) keys hits (record { term = key_number keys bs; hit = h }) bs q
+        from_lookups keys keys hits (record { term = term_number keys bs; hit = h }) bs (λ q.
+        lookup-added 0 (term_number keys bs) keys hits (record { term = term_number keys bs; hit = h }) bs q
         (first_at keys bs e) (omega arith))
         ∙ ap (λ t. with_occurrence t h.document (record { bytes = bs; position = h.position })) seen
-    by false e = added_first keys hits old seen (record { term = key_number keys bs; hit = h }) bs e
-        (key_number-new keys bs e) below
+    by false e = added_first keys hits old seen (record { term = term_number keys bs; hit = h }) bs e
+        (term_number-new keys bs e) below
 
 -- the same of terms that are known by their keys
 pub added_known : (old new : KnownTerms) (terms : Terms) → numbered_terms old.keys.keys old.hits.items ≡ terms

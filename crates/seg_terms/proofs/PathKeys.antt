@@ -10,7 +10,8 @@ use Rattle.std.proofs.lemmas.Nat.{from_le_bytes-to_le_bytes_4}
 use Rattle.seg_paths.specs.Paths.{Extends, HaveNoZero}
 use Rattle.seg_paths.proofs.Exports.{ended-apart, no_zero-at, same_place}
 use Rattle.seg_terms.specs.AddedOccurrences.{with_occurrence}
-use Rattle.seg_terms.specs.TermsByKey.{AreKnown, IsAdded, key_number, with_key}
+use Rattle.seg_column_format.specs.NumberedTerms.{term_number, with_term}
+use Rattle.seg_terms.specs.TermsByKey.{AreKnown, IsAdded}
 use Rattle.seg_terms.specs.NumberedOccurrences.{AreBelow, numbered_terms}
 use Rattle.seg_terms.specs.PathKeys.{IsPathKey, TermsOnPaths, key_path, path_key, term_on}
 use Rattle.seg_terms.specs.declared.hit.Hit.{Hit}
@@ -80,7 +81,7 @@ module _ (paths : List (List ℕ)) (plain : HaveNoZero paths) (distinct : IsDist
         λ i. first i || rest i
 
     place-kept : (keys : List (List ℕ)) → AllByRecursion (IsPathKey (length paths)) keys
-        → key_number (map (term_on paths) keys) (term_on paths q) ≡ key_number keys q
+        → term_number (map (term_on paths) keys) (term_on paths q) ≡ term_number keys q
     place-kept [] all = refl
     place-kept (k ∷ ks) all =
         let first = eq-kept q k here all.0 in
@@ -88,7 +89,7 @@ module _ (paths : List (List ℕ)) (plain : HaveNoZero paths) (distinct : IsDist
         λ i. cond (not (first i)) (1 + rest i) 0
 
     keys-kept : (keys : List (List ℕ)) → AllByRecursion (IsPathKey (length paths)) keys
-        → with_key (map (term_on paths) keys) (term_on paths q) ≡ map (term_on paths) (with_key keys q)
+        → with_term (map (term_on paths) keys) (term_on paths q) ≡ map (term_on paths) (with_term keys q)
     keys-kept keys all =
         ap (λ b. cond b (map (term_on paths) keys) (map (term_on paths) keys ++ term_on paths q ∷ [])) (any-kept keys all)
         ∙ by (list_any (bytes_eq q) keys)

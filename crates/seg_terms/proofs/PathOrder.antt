@@ -122,11 +122,11 @@ pub copied : (paths : List (List ℕ)) (key slice path copy rest first second th
     → number < length paths → number ≡ key_path slice → slice ≡ key → slice_get paths number ≡ Some path → copy ≡ path
     → first ≡ [] → second ≡ first ++ copy → third ≡ second ++ 0 ∷ [] → rest ≡ drop 4 slice → new ≡ third ++ rest
     → new ≡ term_on paths key
-copied paths key slice path copy rest first second third new number within known same at is none one two behind all =
+copied paths key slice path copy rest first second third new number within known same at is none one two following all =
     let path_is : path ≡ get_or paths (key_path key) [] = same_Some path (get_or paths number [])
     (sym at ∙ slice_get-get_or paths number [] within) ∙ ap (λ n. get_or paths n []) (known ∙ ap key_path same) in
     let start : second ≡ get_or paths (key_path key) [] = one ∙ (λ i. none i ++ copy) ∙ is ∙ path_is in
-    let end : rest ≡ drop 4 key = behind ∙ ap (drop 4) same in
+    let end : rest ≡ drop 4 key = following ∙ ap (drop 4) same in
     all ∙ (λ i. two i ++ end i) ∙ (λ i. (start i ++ 0 ∷ []) ++ drop 4 key)
     ∙ append_assoc (get_or paths (key_path key) []) (0 ∷ []) (drop 4 key)
 

@@ -1,5 +1,4 @@
 pub mod AddedOccurrences
-pub mod Keys
 pub mod NumberedOccurrences
 pub mod OccurrenceRuns
 pub mod OrderedOccurrences

@@ -5,8 +5,8 @@ ghost use Rattle.std.specs.Str.{bytes_eq};
 ghost use Rattle.seg_terms.specs.TermsByKey.{AreKnown, IsAdded};
 
 use crate::hit::{Hit, NumberedHit};
-use crate::key::{KeyBytes, TermKey};
 use indexmap::IndexSet;
+use seg_column_format::{TermBytes, TermKey};
 use std::alloc::{AllocError, Global};
 
 /// The keys of the terms so far, and all occurrences. A term's number is the place of its key, in the order in which
@@ -36,7 +36,7 @@ impl KnownTerms {
         ensures err { OnErr result (self.new.keys.keys ≡ self.old.keys.keys
             × self.new.hits.items ≡ self.old.hits.items) }
     {
-        let Some(number) = self.keys.get_index_of(KeyBytes { bytes }) else {
+        let Some(number) = self.keys.get_index_of(TermBytes { bytes }) else {
             return self.add_first(alloc, bytes, hit);
         };
         let term = number as u32;

@@ -24,7 +24,6 @@ mod hit;
 mod runs;
 
 // The terms so far, by their bytes.
-mod key;
 mod known_terms;
 mod term_index;
 

@@ -6,11 +6,11 @@ ghost use Rattle.seg_terms.specs.TermsByKey.{AreKnown};
 ghost use Rattle.seg_terms.specs.TermParts.{AreCut, cut_from};
 
 use crate::hit::Hit;
-use crate::key::TermKey;
 use crate::known_terms::KnownTerms;
 use crate::ordered_hits::{OrderedHits, order_hits};
 use crate::term_part::TermPart;
 use indexmap::IndexSet;
+use seg_column_format::TermKey;
 use std::alloc::{AllocError, Global};
 
 /// Terms in the order of their numbers, and their occurrences, those of each together.

@@ -4,8 +4,8 @@ ghost use Rattle.std.specs.Ordering.{nat_cmp};
 ghost use Rattle.std.specs.Cmp.Lexicographic.{slice_cmp};
 ghost use Rattle.seg_terms.specs.PathKeys.{ranked};
 
-use crate::key::TermKey;
 use crate::path_key::{key_path, key_rest};
+use seg_column_format::TermKey;
 use seg_paths::value_of;
 use std::cmp::Ordering;
 

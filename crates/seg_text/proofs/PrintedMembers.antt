@@ -34,9 +34,9 @@ put_last (m ∷ ms) k t below =
     let above : slice_cmp nat_cmp k m.0 ≡ Greater = nat_list_cmp_total.antisymm k m.0 ∙ ap ordering_reverse below.0 in
     rw above (ap (json.member m.0 (value_json m.1)) (put_last ms k t below.1))
 
-put_behind : (before : json.Members) (ms : List (List ℕ × Tree)) (k : List ℕ) (t : Tree) → members_json before (members_from (ms ++ (k, t) ∷ [])) ≡ put k (value_json t) (members_json before (members_from ms))
-put_behind before [] k t = refl
-put_behind before (m ∷ ms) k t = put_behind (put m.0 (value_json m.1) before) ms k t
+put_after : (before : json.Members) (ms : List (List ℕ × Tree)) (k : List ℕ) (t : Tree) → members_json before (members_from (ms ++ (k, t) ∷ [])) ≡ put k (value_json t) (members_json before (members_from ms))
+put_after before [] k t = refl
+put_after before (m ∷ ms) k t = put_after (put m.0 (value_json m.1) before) ms k t
 
 below_next : (ms : List (List ℕ × Tree)) (key k : List ℕ) (t : Tree) → AreBelow key ms → slice_cmp nat_cmp key k ≡ Less → AreBelow k (ms ++ (key, t) ∷ [])
 below_next [] key k t below less = (less, tt)
@@ -81,7 +81,7 @@ one_member inner count old i now left next before out a b c after key last later
           let spelled : after ++ members_text true (members_listed xs) ≡ out ++ (comma_if later ++ (quoted key ++ 58 ∷ (compact_text (value_json t) ++ members_text true (members_listed xs)))) = rw (p.printed, colon, name, comma) (simp append_assoc) in
           ap (λ ys. before ++ members_text false (members_listed ys)) (append_assoc ms ((key, t) ∷ []) xs) ∙ s.so_far ((key, t) ∷ xs) ∙ sym spelled;
       grown = more_then before out after s.grown (more_by out after (comma_if later ++ (quoted key ++ 58 ∷ compact_text (value_json t))) split);
-      ordered = put_behind json.no_members ms key t ∙ ap (put key (value_json t)) s.ordered ∙ put_last ms key t (s.below key follows);
+      ordered = put_after json.no_members ms key t ∙ ap (put key (value_json t)) s.ordered ∙ put_last ms key t (s.below key follows);
       below = λ k h. below_next ms key k t (s.below key follows) (is_less (slice_cmp nat_cmp key k) h);
     }
 

@@ -15,11 +15,11 @@ use Rattle.seg_model.specs.Refusals.{IfRefusal, build_refusal}
 use Rattle.seg_model.specs.ValidInputs.{Known, input_refusal}
 use Rattle.seg_segment.specs.Laws.{HoldsOneContents}
 use Rattle.seg_segment.specs.SegmentReadSteps.{IsNoDamage, IsReadError}
-use Rattle.seg_index_build.specs.BuildOutcomes.{IsWhyUntold}
+use Rattle.seg_index_build.specs.BuildOutcomes.{IsWhyUntold, AreEmpty}
 use Rattle.seg_index_build.specs.IndexFiles.{IsMergedIndexOf, IsOutputIndexOf, IsWorkIndexOf}
 use Rattle.seg_index_build.specs.TwoDirectories.{Directories, goes_on, stops}
 use Rattle.seg_index_build.proofs.Exports.{IsBuildError, RoseIn, build_error, read_unrefused}
-use Rattle.seg_tool.specs.Jobs.{AreEmpty, Built, BuildsText, NotBuilt}
+use Rattle.seg_tool.specs.Jobs.{Built, BuildsText, NotBuilt}
 use Rattle.seg_tool.specs.Printing.{opening}
 use Rattle.seg_tool.specs.ReadingBack.{PrintsIndex}
 use Rattle.seg_tool.specs.Run.{build_text}

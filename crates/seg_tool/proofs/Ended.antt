@@ -2,6 +2,7 @@
 use Rattle.std.proofs.Common.{◌≡◌, ◌≢◌, ◌∙◌, ℕ, List, Option, None, Some, Result, Ok, Err, IsTrue, refl, sym, ap, subst, inl, inr}
 use Rattle.std.specs.Prelude.{◌⊎◌, IfSome, IsSome, is_some}
 use Rattle.std.proofs.lemmas.Option.{MatchOption-from_none}
+use Rattle.seg_index_build.specs.BuildOutcomes.{AreEmpty}
 use Rattle.seg_values.specs.declared.error.ArgumentCause.TheVariants.{Documents, Numbers}
 use Rattle.seg_values.specs.declared.error.TantivyError.{TantivyError}
 use Rattle.seg_values.specs.declared.error.TantivyError.TheVariants.{SchemaError, InvalidArgument, IndexAlreadyExists, OpenReadError, OpenWriteError, IoError, DataCorruption, SystemError, FieldNotFound, OutOfMemory}
@@ -13,7 +14,7 @@ use Rattle.seg_index_build.specs.TwoDirectories.{Directories}
 use Rattle.seg_index_build.proofs.Exports.{IsBuildError, RoseIn}
 use Rattle.seg_script.specs.Script.{script}
 use Rattle.seg_tool.specs.DirectoryCalls.{BuildDoes, BuildsMeant, JobDoes}
-use Rattle.seg_tool.specs.Jobs.{AreEmpty, BuildsScript, BuildsText, NotBuilt, WithStatus, no_memory, no_script, of_input}
+use Rattle.seg_tool.specs.Jobs.{BuildsScript, BuildsText, NotBuilt, WithStatus, no_memory, no_script, of_input}
 use Rattle.seg_tool.specs.Run.{first_of, refusal_of, IsMeantBy, IsWhyRefused, IsWhyRefusedUntold}
 use Rattle.seg_tool.specs.Statuses.{IfRefused, IfWritten, RefusedFor, status_of}
 use Rattle.seg_tool.specs.declared.status.Status.{Status}

@@ -5,6 +5,7 @@ use Rattle.std.specs.FinMap.{get}
 use Rattle.std.specs.List.{AllByRecursion}
 use Rattle.std.specs.Option.{option_and_then}
 use Rattle.std.proofs.lemmas.Option.{same_Some}
+use Rattle.seg_index_build.specs.MergedIndices.{listed_segments}
 use Rattle.seg_common.specs.FaultCounts.{Rose}
 use Rattle.seg_common.specs.declared.name.FileName.TheVariants as name
 use Rattle.seg_values.specs.declared.error.TantivyError.{TantivyError}
@@ -13,7 +14,7 @@ use Rattle.seg_directory.proofs.Exports.{all_went}
 use Rattle.seg_directory.specs.Files.{NamedFiles}
 use Rattle.seg_directory.specs.DirectoryStates.{DirectoryState}
 use Rattle.seg_meta.specs.IndexOfFiles as index
-use Rattle.seg_meta.specs.IndexOfFiles.{Deletes, ListedSegment, Meta}
+use Rattle.seg_meta.specs.IndexOfFiles.{ListedSegment, Meta}
 use Rattle.seg_meta.specs.ParsedMeta.{meta_read}
 use Rattle.seg_meta.specs.MetaSteps.{LoadsMetas, load_steps, meta_damage}
 use Rattle.seg_meta.specs.Metas.{segment_of}
@@ -21,16 +22,15 @@ use Rattle.seg_meta.specs.MetaMeaning.{meta_of}
 use Rattle.seg_meta.specs.declared.index_meta.IndexMeta.{IndexMeta}
 use Rattle.seg_model.specs.Fields.{Schema}
 use Rattle.seg_segment.specs.IndexForms.{segment_forms}
-use Rattle.seg_segment.specs.AliveFiles.{HoldsAlive}
+use Rattle.seg_segment.specs.AliveFiles.{HoldsMarks}
 use Rattle.seg_segment.specs.SegmentReadSteps.{IsNoDamage, IsReadError}
 use Rattle.seg_segment.proofs.Exports.{FindWhole, FindsDamage, OnlyReads, Unchanged, found_whole, reads_rose, reads_so, reads_stay, then_same}
 use Rattle.seg_open.specs.OpenSegment.{OpenSegment}
 use Rattle.seg_open.specs.OpeningSteps.{Asked, OpensSegments}
-use Rattle.seg_open.proofs.Exports.{EachRead, HoldsMarks as HoldsRead, IsHeld, IsOf, Whole, segments_held, segments_of_schema, segments_rose, segments_so, segments_stay, segments_undamaged}
-use Rattle.seg_index_build.specs.MergeAnswers.{HoldsMarks}
+use Rattle.seg_open.proofs.Exports.{EachRead, IsHeld, IsOf, Whole, segments_held, segments_of_schema, segments_rose, segments_so, segments_stay, segments_undamaged}
 use Rattle.seg_tool.specs.Indexes.{AreReadOf, IsPrinted, IsReadOf}
 use Rattle.seg_tool.specs.Printing.{read_texts}
-use Rattle.seg_tool.specs.ReadingBack.{PrintsIndex, ReadsText, all_of, fails, listed_in, loaded, not_loaded, reads}
+use Rattle.seg_tool.specs.ReadingBack.{PrintsIndex, ReadsText, all_of, fails, loaded, not_loaded, reads}
 use Rattle.seg_tool.specs.declared.words.Detail.{Detail}
 
 -- ---- two stretches in which no file changes
@@ -82,11 +82,6 @@ module _ (a b : DirectoryState) where
 
 -- ---- the segments
 
-marks_as : (files : NamedFiles) (id documents : ℕ) (deletes : Option Deletes) (marks alive : List Bool) → alive ≡ marks
-    → HoldsRead files id documents deletes marks → HoldsMarks files id documents deletes alive
-marks_as files id documents None marks alive is h = is ∙ h
-marks_as files id documents (Some d) marks alive is h = subst (HoldsAlive files id d.stamp documents) (sym is) h
-
 module _ (files : NamedFiles) (schema : Schema) where
   are_read : (listed : List ListedSegment) (opened : List OpenSegment) → EachRead (IsHeld files) (all_of (map (segment_of schema) listed)) opened
       → EachRead IsOf (all_of (map (segment_of schema) listed)) opened → AreReadOf files schema listed opened
@@ -98,7 +93,7 @@ module _ (files : NamedFiles) (schema : Schema) where
       of_id = of.0.of_id;
       of_schema = of.0.of_schema;
       holds = held.0.contents;
-      alive = marks_as files l.id l.documents l.deletes held.0.marks s.alive held.0.cut held.0.alive;
+      alive = subst (HoldsMarks files l.id l.documents l.deletes) (sym held.0.cut) held.0.alive;
     },
     are_read listed opened held.1 of.1,
   )
@@ -134,19 +129,19 @@ module _ (front label : List ℕ) (detail : Detail) (a b : DirectoryState) where
   pub prints_stay : (r : Result (List ℕ) TantivyError) → PrintsIndex front label detail r a b → Unchanged a b
   prints_stay r (not_loaded e is load) = load_stays a b (Err e) load
   prints_stay r (loaded metas m load text) =
-      then_same a m b (load_stays a m (Ok metas) load) (text_stays front label detail (all_of (listed_in metas)) m b r text)
+      then_same a m b (load_stays a m (Ok metas) load) (text_stays front label detail (all_of (listed_segments metas)) m b r text)
 
   -- with which errors it ends
   pub prints_so : (e : TantivyError) → PrintsIndex front label detail (Err e) a b → IsReadError e
   prints_so e (not_loaded d is load) = subst IsReadError (sym (cc is)) (load_so a b d load)
   prints_so e (loaded metas m load text) =
-      segments_so (all_of (listed_in metas)) m b e (text_fails front label detail (all_of (listed_in metas)) m b e text)
+      segments_so (all_of (listed_segments metas)) m b e (text_fails front label detail (all_of (listed_segments metas)) m b e text)
 
   -- a failed reading was counted
   pub prints_rose : PrintsIndex front label detail (Err OpenReadError) a b → Rose a.faults b.faults
   prints_rose (not_loaded d is load) = load_rose a b (subst (λ (x : TantivyError). LoadsMetas (Err x) a b) (sym (cc is)) load)
   prints_rose (loaded metas m load text) =
-      let rose = segments_rose (all_of (listed_in metas)) m b (text_fails front label detail (all_of (listed_in metas)) m b OpenReadError text) in
+      let rose = segments_rose (all_of (listed_segments metas)) m b (text_fails front label detail (all_of (listed_segments metas)) m b OpenReadError text) in
       omega (arith, rose, (load_stays a m (Ok metas) load).later)
 
   -- what it prints
@@ -155,7 +150,7 @@ module _ (front label : List ℕ) (detail : Detail) (a b : DirectoryState) where
   prints_told text told (not_loaded e is load) = absurd (cc is)
   prints_told text told (loaded metas m load made) =
       let same = load_stays a m (Ok metas) load in
-      let asked = all_of (listed_in metas) in
+      let asked = all_of (listed_segments metas) in
       let o = text_reads front label detail asked m b text made in
       record {
         metas = metas;
@@ -178,7 +173,7 @@ module _ (front label : List ℕ) (detail : Detail) (a b : DirectoryState) where
     prints_undamaged e whole (not_loaded d is load) = subst IsNoDamage (sym (cc is)) (load_undamaged a b d meta told is_index load)
     prints_undamaged e whole (loaded metas m load text) =
         let same = load_stays a m (Ok metas) load in
-        let asked = all_of (listed_in metas) in
+        let asked = all_of (listed_segments metas) in
         let all = subst (λ (x : Meta). index.AreWhole segment_forms a.files x) (same_meta metas m load) whole in
         segments_undamaged asked m b e
         (subst (λ (files : NamedFiles). AllByRecursion (Whole files) asked) (sym same.files) (are_whole a.files metas.schema metas.segments all))

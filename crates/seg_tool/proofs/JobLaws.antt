@@ -4,6 +4,7 @@ use Rattle.std.specs.Prelude.{◌⊎◌, Bool, replicate, true}
 use Rattle.std.specs.Io.KnownBytes.{Appends}
 use Rattle.std.proofs.lemmas.List.{append-nil}
 use Rattle.std.proofs.lemmas.Option.{same_Some}
+use Rattle.seg_index_build.specs.MergedIndices.{listed_segments}
 use Rattle.seg_common.specs.FaultCounts.{Rose}
 use Rattle.seg_common.specs.Streams.{AppendsPart}
 use Rattle.seg_values.specs.declared.error.TantivyError.{TantivyError}
@@ -33,7 +34,7 @@ use Rattle.seg_tool.specs.DirectoryCalls.{JobDoes}
 use Rattle.seg_tool.specs.Indexes.{AreReadOf, HasWholeIndex, IsJoined, IsMergedText, IsPrinted, IsShownText, joined_text}
 use Rattle.seg_tool.specs.Jobs.{Merges, MergesText, MergesWork, ShowsText, WithStatus, last_id, merge_of}
 use Rattle.seg_tool.specs.Printing.{read_segment_text, read_texts}
-use Rattle.seg_tool.specs.ReadingBack.{PrintsIndex, listed_in}
+use Rattle.seg_tool.specs.ReadingBack.{PrintsIndex}
 use Rattle.seg_tool.specs.Run.{Gains, GainsPart}
 use Rattle.seg_tool.specs.Runs.{EndsJob, SinkState, World, WritesText, failed, has_text, no_text, written}
 use Rattle.seg_tool.specs.Statuses.{status_of}
@@ -218,13 +219,13 @@ merges_some : (metas merged : IndexMeta) (a b : Directories) → MergesSegments 
 merges_some metas merged a b h empty = by h.merges
   where
     none_there : h.refusal ≡ None → ⊥
-    none_there none = some_merged (merge_of metas) (listed_in metas) h.refusal none h.is (ap (λ (l : List ListedSegment). map (segment_of metas.schema) l) empty)
+    none_there none = some_merged (merge_of metas) (listed_segments metas) h.refusal none h.is (ap (λ (l : List ListedSegment). map (segment_of metas.schema) l) empty)
 
     by : Then {X = Unit {0}} (Passes h.refusal) (λ _. MergesLive (merge_of metas)) (Ok merged) a b → ⊥
     by (stops e is k) = cc is
     by (goes_on u n k l) = none_there k.0
 
-pub first_of : (metas : IndexMeta) → metas.segments ≢ [] → first_schema (listed_in metas) ≡ metas.schema
+pub first_of : (metas : IndexMeta) → metas.segments ≢ [] → first_schema (listed_segments metas) ≡ metas.schema
 first_of metas some = by metas.segments some
   where
     by : (listed : List ListedSegment) → listed ≢ [] → first_schema (map (segment_of metas.schema) listed) ≡ metas.schema

@@ -3,6 +3,7 @@ use Rattle.std.proofs.Common.{◌≡◌, ◌≢◌, ◌∙◌, ℕ, List, [], �
 use Rattle.std.specs.Prelude.{◌⊎◌, IfErr, IfOk, IfSome, OnOk}
 use Rattle.std.specs.FinMap.{len}
 use Rattle.std.specs.List.{AllByRecursion}
+use Rattle.seg_index_build.specs.MergedIndices.{listed_segments}
 use Rattle.seg_values.specs.declared.error.ArgumentCause.TheVariants.{NoSegments}
 use Rattle.seg_values.specs.declared.error.TantivyError.{TantivyError}
 use Rattle.seg_values.specs.declared.error.TantivyError.TheVariants.{IndexAlreadyExists, InvalidArgument, OutOfMemory}
@@ -22,13 +23,12 @@ use Rattle.seg_open.specs.Answers.{seen_as}
 use Rattle.seg_open.specs.OpeningSteps.{IsNoDamage}
 use Rattle.seg_check.specs.AdmittedInputs.{IsValidIf}
 use Rattle.seg_index_build.specs.FilesAfterCrash.{MayBeBuilt, MayBeMerged}
-use Rattle.seg_index_build.specs.BuildOutcomes.{EndsBuilding}
+use Rattle.seg_index_build.specs.BuildOutcomes.{EndsBuilding, AreEmpty}
 use Rattle.seg_index_build.specs.DirectoryCalls.{BuildsIndexes}
 use Rattle.seg_index_build.specs.IndexFiles.{IsOutputIndexOf, IsWorkIndexOf, merged_meta, output_id, work_ids}
 use Rattle.seg_index_build.specs.MergedSegments.{AreOfOne, IsRefusal, MergeInput, MergesSegments, merge_input, one_refusal}
 use Rattle.seg_index_build.specs.TwoDirectories.{Directories, both, stops}
-use Rattle.seg_tool.specs.Jobs.{AreEmpty, Built, BuildsBoth, Merges, NotBuilt, last_id, merge_of}
-use Rattle.seg_tool.specs.ReadingBack.{listed_in}
+use Rattle.seg_tool.specs.Jobs.{Built, BuildsBoth, Merges, NotBuilt, last_id, merge_of}
 use Rattle.seg_tool.proofs.OutputOnDisk.{empty_still}
 
 -- ---- both indexes are built
@@ -102,12 +102,12 @@ module _ (metas : IndexMeta) where
 
   -- what is handed to the merge
   pub merge_is : (segments : List SegmentParts) (settings : IndexSettings) (filters : List (Option Filter)) (id : ℕ) (r : Result IndexMeta TantivyError) (a b : Directories)
-      → segments ≡ listed_in metas → settings ≡ metas.index_settings → filters ≡ map (λ _. None) segments → id ≡ last_id
+      → segments ≡ listed_segments metas → settings ≡ metas.index_settings → filters ≡ map (λ _. None) segments → id ≡ last_id
       → Merges (merge_input segments settings filters id) r a b → Merges (merge_of metas) r a b
   merge_is segments settings filters id r a b is set none last merges =
       subst (λ (m : MergeInput). Merges m r a b)
       (ap (λ (i : ℕ). merge_input segments settings filters i) last
       ∙ ap (λ (fs : List (Option Filter)). merge_input segments settings fs last_id) none
       ∙ ap (λ (l : List SegmentParts). merge_input l settings (map (λ _. None) l) last_id) is
-      ∙ ap (λ (s : IndexSettings). merge_input (listed_in metas) s (map (λ _. None) (listed_in metas)) last_id) set)
+      ∙ ap (λ (s : IndexSettings). merge_input (listed_segments metas) s (map (λ _. None) (listed_segments metas)) last_id) set)
       merges

@@ -1,9 +1,10 @@
 -- What the merge of an index never ends with, and where it ends well.
-use Rattle.std.proofs.Common.{◌≡◌, ◌≢◌, ◌≤◌, ◌<◌, ◌^◌, ◌∙◌, ℕ, true, List, [], ◌∷◌, map, None, Result, Ok, Err, IsTrue, refl, sym, ap, subst, codes, arith}
+use Rattle.std.proofs.Common.{◌≡◌, ◌≢◌, ◌≤◌, ◌<◌, ◌^◌, ◌∙◌, ℕ, true, List, [], ◌∷◌, map, None, Ok, Err, IsTrue, refl, sym, ap, subst, codes, arith}
 use Rattle.std.specs.Prelude.{is_some}
 use Rattle.std.specs.FinMap.{len}
 use Rattle.std.specs.List.{AllByRecursion}
 use Rattle.std.proofs.lemmas.Option.{same_Some}
+use Rattle.seg_index_build.specs.MergedIndices.{listed_segments}
 use Rattle.seg_common.specs.FaultCounts.{Rose}
 use Rattle.seg_values.specs.declared.error.TantivyError.{TantivyError}
 use Rattle.seg_values.specs.declared.error.TantivyError.TheVariants.{IndexAlreadyExists, OutOfMemory}
@@ -19,7 +20,7 @@ use Rattle.seg_model.specs.Fields.{Schema}
 use Rattle.seg_model.specs.ValidInputs.{settings_fit}
 use Rattle.seg_segment.specs.IndexForms.{segment_forms}
 use Rattle.seg_segment.specs.SegmentReadSteps.{IsNoDamage, IsReadError}
-use Rattle.seg_segment.proofs.Exports.{Unchanged, rose_before}
+use Rattle.seg_segment.proofs.Exports.{Unchanged, rose_before, failing, same_error}
 use Rattle.seg_merger.specs.Merger.{all_fit}
 use Rattle.seg_open.specs.OpenSegment.{OpenSegment}
 use Rattle.seg_index_build.specs.MergeAnswers.{AllHaveHeld, CanBeMerged, IsMergeError, LiveAreWhole}
@@ -28,7 +29,7 @@ use Rattle.seg_index_build.specs.TwoDirectories.{Directories, goes_on, stops}
 use Rattle.seg_tool.specs.DirectoryCalls.{IsReady}
 use Rattle.seg_tool.specs.Indexes.{HasMergeableIndex, HasWholeLiveSegments, merged_of}
 use Rattle.seg_tool.specs.Jobs.{Merges, MergesText, MergesWork, WithStatus, merge_of}
-use Rattle.seg_tool.specs.ReadingBack.{PrintsIndex, listed_in}
+use Rattle.seg_tool.specs.ReadingBack.{PrintsIndex}
 use Rattle.seg_tool.specs.Runs.{EndsJob, World}
 use Rattle.seg_tool.specs.Statuses.{status_of}
 use Rattle.seg_tool.specs.declared.status.Status.{Status}
@@ -39,13 +40,6 @@ use Rattle.seg_tool.proofs.IndexLaws.{load_index, load_rose, load_so, load_stays
 use Rattle.seg_tool.proofs.JobLaws.{first_of, job_so, memory_left}
 use Rattle.seg_tool.proofs.StatusLaws.{exists_only, memory_only, undamaged_as}
 use Rattle.seg_tool.proofs.Steady.{BothSteady, merges_steady}
-
-abbrev failing : (T : Type 0) → TantivyError → Result T TantivyError
-failing T e = Err e
-
--- an error that is handed on
-same_error : (T : Type 0) (e d : TantivyError) → failing T e ≡ failing T d → e ≡ d
-same_error T e d is = cc is
 
 -- ---- what is asked for
 
@@ -85,7 +79,7 @@ are_merged : (metas : IndexMeta) → metas.segments ≢ [] → settings_fit (set
 are_merged metas some settings = record {
   some = some_parts metas.schema metas.segments some;
   of_one = are_of_one metas.schema metas.segments;
-  fit = none_fit (listed_in metas);
+  fit = none_fit (listed_segments metas);
   settings = settings;
 }
 
@@ -165,9 +159,9 @@ module _ (a m : DirectoryState) (told : IsTrue a.tells) (has : HasWholeLiveSegme
   meta_is : has.meta ≡ meta_of metas
   meta_is = same_Some has.meta (meta_of metas) (sym has.is_index ∙ load_index a m metas told loads)
 
-  loaded_whole : LiveAreWhole m.files (listed_in metas)
+  loaded_whole : LiveAreWhole m.files (listed_segments metas)
   loaded_whole =
-      subst (λ (files : NamedFiles). LiveAreWhole files (listed_in metas)) (sym same_files.files)
+      subst (λ (files : NamedFiles). LiveAreWhole files (listed_segments metas)) (sym same_files.files)
       (live_whole metas.schema a.files metas.segments
       (subst (λ (x : Meta). AllByRecursion (λ (s : ListedSegment). is_live s ≡ true → index.IsWhole segment_forms a.files x.schema s) x.segments) meta_is has.whole))
 
@@ -219,7 +213,7 @@ module _ (a b : Directories) (can : HasMergeableIndex a.work b.work) (ready : Is
       (subst (λ (x : Meta). settings_fit x.settings ≡ true) is can.fit)
 
   loaded_few : (metas : IndexMeta) (m : DirectoryState) → LoadsMetas (Ok metas) a.work m
-      → live_documents (map (λ (s : SegmentParts). s.meta) (listed_in metas)) < 2 ^ 31
+      → live_documents (map (λ (s : SegmentParts). s.meta) (listed_segments metas)) < 2 ^ 31
   loaded_few metas m loads =
       subst (λ (l : List ListedSegment). live_documents l < 2 ^ 31) (sym (metas_back metas.schema metas.segments))
       (subst (λ (x : Meta). live_documents x.segments < 2 ^ 31) (meta_is a.work m can.tells can.has metas loads) can.few)
@@ -227,7 +221,7 @@ module _ (a b : Directories) (can : HasMergeableIndex a.work b.work) (ready : Is
   -- what is read of those that are merged joins
   loaded_joins : (metas : IndexMeta) (m : DirectoryState) → LoadsMetas (Ok metas) a.work m → (opened : List OpenSegment)
       → AllHaveHeld m.files (live_asked (merge_of metas).segments (merge_of metas).filters) opened
-      → is_some (joined (first_schema (listed_in metas)) opened) ≡ true
+      → is_some (joined (first_schema (listed_segments metas)) opened) ≡ true
   loaded_joins metas m loads opened held =
       let is = meta_is a.work m can.tells can.has metas loads in
       let same = same_files a.work m can.tells can.has metas loads in

@@ -3,10 +3,11 @@ use Rattle.std.proofs.Common.{◌≡◌, ℕ, zero, suc, ◌+◌, ◌<◌, ◌�
 use Rattle.std.specs.Prelude.{Any, Bool, IsSomeAnd, count_by, is_some, nat_lt, if◌then◌else◌, replicate, unwrap_or, Result, OnOk}
 use Rattle.std.specs.FinMap.{entries}
 use Rattle.std.specs.List.{slice_get, slice_index_or, enumerate_from, flat_map, AllByRecursion}
-use Rattle.std.proofs.lemmas.Bool.{ltb-true, ltb-false}
+use Rattle.std.proofs.lemmas.Bool.{ltb-false}
 use Rattle.std.proofs.lemmas.List.{append-nil, drop_all, length-map}
 use Rattle.std.proofs.lemmas.Option.{same_Some}
 use Rattle.std.proofs.lemmas.Result.{on_ok_weaker}
+use Rattle.seg_segment.proofs.Exports.{pair_of, term_of}
 use Rattle.seg_common.specs.declared.term_info.TermInfo.{TermInfo}
 use Rattle.seg_common.proofs.Lists.{drop-slice_get}
 use Rattle.seg_values.specs.Tree.{Document}
@@ -18,8 +19,8 @@ use Rattle.seg_model.specs.DocumentTerms.{Posting}
 use Rattle.seg_norms.specs.StoredNorms.{norms_of}
 use Rattle.seg_termdict.specs.Dictionary.{Term}
 use Rattle.seg_termdict.specs.SortedTerms.{RankedTerm}
-use Rattle.seg_termdict.specs.TermStreams.{Stream, no_ranked, no_term, current, advanced, ranked_terms}
-use Rattle.seg_termdict.proofs.Exports.{ranked_at, ranked_length, ranked_of}
+use Rattle.seg_termdict.specs.TermStreams.{Stream, no_term, current, advanced, ranked_terms}
+use Rattle.seg_termdict.proofs.Exports.{ranked_length}
 use Rattle.seg_postings.specs.OpenedFields.{ReadTerm, OpenField, dictionary_terms}
 use Rattle.seg_open.specs.OpenSegment.{terms_in}
 use Rattle.seg_text.specs.DocumentText.{document_line, documents_from, documents_text}
@@ -31,6 +32,7 @@ use Rattle.seg_text.proofs.Exports.{dead_text-replicate}
 use Rattle.seg_text.specs.ColumnText.{columns_text}
 use Rattle.seg_tool.specs.Printing.{opened_text, printed_text}
 use Rattle.seg_tool.specs.declared.words.Detail.TheVariants.{Full}
+use Rattle.seg_tool.proofs.Streamed.{come_to, further, within}
 
 -- ---- fields
 
@@ -60,14 +62,6 @@ places_more before schema fields i e same at =
 
 -- ---- terms
 
--- a term with its postings
-abbrev pub pair_of : ReadTerm → List ℕ × List Posting
-pair_of t = (t.bytes, t.postings)
-
--- a term with its info
-abbrev term_of : ReadTerm → Term
-term_of t = (t.bytes, t.info)
-
 -- the term at a place, whose key and info are known, and those after it
 next_term : (ts : List ReadTerm) (i : ℕ) (key : List ℕ) (info : TermInfo) (left : List Posting) → i < length ts → key ≡ (get_or (map term_of ts) i no_term).0 → info ≡ (get_or (map term_of ts) i no_term).1 → AllByRecursion (λ (t : ReadTerm). t.info ≡ info → left ≡ t.postings) ts → map pair_of (drop i ts) ≡ (key, left) ∷ map pair_of (drop (suc i) ts)
 next_term [] i key info left lt key_is info_is all = absurd (omega (arith, lt))
@@ -83,37 +77,15 @@ index_as [] i d = refl
 index_as (x ∷ xs) zero d = refl
 index_as (x ∷ xs) (suc i) d = index_as xs i d
 
-abbrev pub one_further : Stream → Stream
-one_further s = record { terms = s.terms; backward = s.backward; taken = s.taken + 1 }
-
--- where a stream goes on
-pub further : (s after : Stream) → nat_lt s.taken (length s.terms) ≡ true → after ≡ advanced s → after ≡ one_further s
-further s after more is = is ∙ ap (λ b. if b then one_further s else s) more
-
 module _ (f : OpenField) (s after : Stream) (of : s.terms ≡ ranked_terms (dictionary_terms f)) (more : nat_lt s.taken (length s.terms) ≡ true) (is : after ≡ advanced s) where
-  pub still_of : after.terms ≡ ranked_terms (dictionary_terms f)
-  still_of = ap (λ (x : Stream). x.terms) (further s after more is) ∙ of
-
-  within : s.taken < length f.terms
-  within =
-      let lt : s.taken < length s.terms = ltb-true _ _ more in
-      omega (arith, lt, ap length of, ranked_length (dictionary_terms f), length-map f.terms term_of)
-
-  come_to : current after ≡ ranked_of (s.taken, get_or (dictionary_terms f) s.taken no_term)
-  come_to =
-      ap current (further s after more is)
-      ∙ ap (λ k. get_or (no_ranked ∷ s.terms) k no_ranked) (add-one s.taken)
-      ∙ ap (λ ts. get_or ts s.taken no_ranked) of
-      ∙ ranked_at (dictionary_terms f) s.taken (omega (arith, within, length-map f.terms term_of))
-
   -- the info is that of a term
   pub info_held : (info : TermInfo) → info ≡ (current after).info → Any (λ (t : Term). t.1 ≡ info) (dictionary_terms f)
   info_held info info_is = (
     s.taken,
     get_or (dictionary_terms f) s.taken no_term,
-    omega (arith, within, length-map f.terms term_of),
+    omega (arith, within f s after of more is, length-map f.terms term_of),
     index_as (dictionary_terms f) s.taken no_term,
-    sym (info_is ∙ ap (λ (t : RankedTerm TermInfo). t.info) come_to),
+    sym (info_is ∙ ap (λ (t : RankedTerm TermInfo). t.info) (come_to f s after of more is)),
   )
 
   -- one term more
@@ -123,7 +95,7 @@ module _ (f : OpenField) (s after : Stream) (of : s.terms ≡ ranked_terms (dict
       ap (λ (x : Stream). (before ++ term_line (key, left)) ++ flat_map term_line (map pair_of (drop x.taken f.terms))) (further s after more is)
       ∙ append_assoc before (term_line (key, left)) (flat_map term_line (map pair_of (drop (s.taken + 1) f.terms)))
       ∙ ap (λ k. before ++ (term_line (key, left) ++ flat_map term_line (map pair_of (drop k f.terms)))) (add-one s.taken)
-      ∙ ap (λ ts. before ++ flat_map term_line ts) (sym (next_term f.terms s.taken key info left within (key_is ∙ ap (λ (t : RankedTerm TermInfo). t.key) come_to) (info_is ∙ ap (λ (t : RankedTerm TermInfo). t.info) come_to) all))
+      ∙ ap (λ ts. before ++ flat_map term_line ts) (sym (next_term f.terms s.taken key info left (within f s after of more is) (key_is ∙ ap (λ (t : RankedTerm TermInfo). t.key) (come_to f s after of more is)) (info_is ∙ ap (λ (t : RankedTerm TermInfo). t.info) (come_to f s after of more is)) all))
 
 -- no term is left after the last
 pub terms_done : (f : OpenField) (s : Stream) → s.terms ≡ ranked_terms (dictionary_terms f) → nat_lt s.taken (length s.terms) ≡ false → (before all : List ℕ)

@@ -3,6 +3,7 @@ use Rattle.std.proofs.Common.{◌≡◌, ◌<◌, ◌≤◌, ◌+◌, ℕ, List,
 use Rattle.std.specs.Prelude.{◌⊎◌, ◌≢◌, IfSome, IsSome, IsTrue}
 use Rattle.std.specs.FinMap.{len}
 use Rattle.std.specs.Io.KnownBytes.{Appends, IsAtEnd}
+use Rattle.seg_index_build.specs.BuildOutcomes.{AreEmpty}
 use Rattle.seg_common.specs.FaultCounts.{Rose}
 use Rattle.seg_common.specs.Streams.{AppendsPart, IsAllOf}
 use Rattle.seg_values.specs.declared.error.TantivyError.{TantivyError}
@@ -15,7 +16,7 @@ use Rattle.seg_index_build.specs.TwoDirectories.{Directories}
 use Rattle.seg_index_build.proofs.Exports.{RoseIn}
 use Rattle.seg_script.specs.Script.{script}
 use Rattle.seg_tool.specs.DirectoryCalls.{BuildDoes, BuildsMeant}
-use Rattle.seg_tool.specs.Jobs.{AreEmpty, BuildsScript}
+use Rattle.seg_tool.specs.Jobs.{BuildsScript}
 use Rattle.seg_tool.specs.Run.{Gains, GainsPart, HasMergedIndex, HasOutputIndex, HasWorkIndex, IsAdmitted, IsMeantBy, IsNoScript, IsScript, IsTextOf, IsValidScript, IsWhyRefused, IsWhyRefusedUntold, first_of, max_script}
 use Rattle.seg_tool.specs.Runs.{EndsJob, RunsBuild, SinkState, Takes, TakesAll, World, WritesText, failed, has_text, is_read, no_text, not_read, starved, too_long, written}
 use Rattle.seg_tool.specs.Statuses.{IfRefused, IfWritten, RefusedFor}

@@ -1,15 +1,14 @@
 -- The text of the indexes of an input, where the directories tell their files.
-use Rattle.std.proofs.Common.{◌≡◌, ◌∙◌, ℕ, ◌-◌, List, [], ◌∷◌, ◌++◌, take, drop, length, map, Bool, true, false, cond, Option, None, Some, refl, sym, ap, subst, codes}
+use Rattle.std.proofs.Common.{◌≡◌, ◌∙◌, ℕ, ◌-◌, List, [], ◌∷◌, ◌++◌, length, map, Bool, true, false, cond, Option, None, Some, refl, sym, ap, subst, codes}
 use Rattle.std.specs.Prelude.{not, replicate, unwrap_or}
 use Rattle.std.specs.List.{AllByRecursion, count_by, list_all}
 use Rattle.std.specs.FinMap.{empty}
 use Rattle.std.proofs.lemmas.List.{append-nil}
 use Rattle.std.proofs.lemmas.Option.{same_Some}
-use Rattle.seg_common.proofs.Lists.{all_marked}
 use Rattle.seg_values.specs.Tree.{Document}
 use Rattle.seg_directory.specs.Files.{NamedFiles}
 use Rattle.seg_meta.specs.IndexOfFiles as index
-use Rattle.seg_meta.specs.IndexOfFiles.{Deletes, ListedSegment, Meta}
+use Rattle.seg_meta.specs.IndexOfFiles.{ListedSegment, Meta}
 use Rattle.seg_meta.specs.MetaMeaning.{meta_of}
 use Rattle.seg_meta.specs.declared.index_meta.IndexMeta.{IndexMeta}
 use Rattle.seg_model.specs.Columns.{Columns}
@@ -17,16 +16,14 @@ use Rattle.seg_model.specs.Contents.{Contents, full_reading, reading_part}
 use Rattle.seg_model.specs.Fields.{Schema, Analyzer}
 use Rattle.seg_model.specs.Input.{Input, input_batches, input_survivors}
 use Rattle.seg_model.specs.Norms.{all_norms}
-use Rattle.seg_model.specs.Operations.{Batch, Operation, batches_from}
+use Rattle.seg_model.specs.Operations.{Batch}
 use Rattle.seg_model.proofs.Exports.{was_read}
 use Rattle.seg_segment.specs.IndexForms.{segment_forms}
 use Rattle.seg_segment.specs.Laws.{HoldsOneContents}
 use Rattle.seg_open.specs.OpenSegment.{OpenSegment, contents_of}
 use Rattle.seg_batches.specs.WrittenSegments.{AllStand, AllTellAlive, TellsAlive, all_listed, deletes_of, segment_of, segments_of}
-use Rattle.seg_batches.proofs.Exports.{length-alive_after}
 use Rattle.seg_index_build.specs.IndexFiles.{IsOutputIndexOf, IsWorkIndexOf, output_id, undeleted, work_ids}
-use Rattle.seg_index_build.specs.MergeAnswers.{HoldsMarks}
-use Rattle.seg_index_build.proofs.Exports.{one_set, counts}
+use Rattle.seg_index_build.proofs.Exports.{counts, IsCounted, alive_read, batches_counted}
 use Rattle.seg_tool.specs.Indexes.{AreReadOf, IsPrinted, IsReadOf}
 use Rattle.seg_tool.specs.Printing.{opening, printed_text, read_segment_text, read_texts}
 use Rattle.seg_tool.specs.Run.{build_text, documents_text, output_text, segment, work_text}
@@ -54,33 +51,6 @@ module _ (detail : Detail) (label : List ℕ) where
       ∙ ap (λ (o : Option Columns). printed_text detail schema (segment schema analyzer label id documents alive)
       (unwrap_or o empty) (all_norms schema analyzer documents)) (sym read.are_columns)
 
--- ---- which documents are alive
-
--- it is said of each document of a batch whether it is alive
-abbrev IsCounted : Batch → Type 0
-IsCounted b = length b.alive ≡ length b.documents
-
-batches_counted : (schema : Schema) (analyzer : Analyzer) (from : ℕ) (cuts : List ℕ) (operations : List Operation)
-    → AllByRecursion IsCounted (batches_from schema analyzer from cuts operations)
-batches_counted schema analyzer from [] operations = (length-alive_after schema analyzer operations [], tt)
-batches_counted schema analyzer from (cut ∷ cuts) operations = (
-  length-alive_after schema analyzer (take (cut - from) operations) (drop (cut - from) operations),
-  batches_counted schema analyzer cut cuts (drop (cut - from) operations),
-)
-
-module _ (files : NamedFiles) (stamp id documents : ℕ) (alive read : List Bool) (counted : length alive ≡ documents) where
-  abbrev removed : Deletes
-  removed = record { number = count_by not alive; stamp = stamp }
-
-  alive_as : (t : Bool) → list_all (λ b. b) alive ≡ t → TellsAlive files id documents alive (cond t None (Some removed))
-      → HoldsMarks files id documents (cond t None (Some removed)) read → read ≡ alive
-  alive_as true all tells held = held ∙ ap (λ n. replicate n true) (sym counted) ∙ sym (all_marked alive all)
-  alive_as false all tells held = one_set files id stamp documents read alive held tells
-
-  alive_is : TellsAlive files id documents alive (deletes_of stamp alive)
-      → HoldsMarks files id documents (deletes_of stamp alive) read → read ≡ alive
-  alive_is tells held = alive_as (list_all (λ b. b) alive) refl tells held
-
 -- ---- all segments
 
 module _ (law : HoldsOneContents) (detail : Detail) (schema : Schema) (analyzer : Analyzer) (files : NamedFiles) where
@@ -105,7 +75,7 @@ module _ (law : HoldsOneContents) (detail : Detail) (schema : Schema) (analyzer 
   work_is stamp (id ∷ ids) (b ∷ batches) (s ∷ opened) counted stand tell read =
       ap (λ xs. xs ++ read_texts (codes "work") detail opened)
       (segment_is detail (codes "work") schema analyzer id b.documents b.alive s read.0.of_schema read.0.of_id
-      (alive_is files stamp id (length b.documents) b.alive s.alive counted.0 tell.0 read.0.alive)
+      (alive_read files stamp id (length b.documents) b.alive s.alive counted.0 tell.0 read.0.alive)
       (stands_as id b.documents s (record { id = id; documents = length b.documents; deletes = deletes_of stamp b.alive }) refl stand.0 read.0))
       ∙ ap (λ xs. documents_text detail schema analyzer (codes "work") id b.documents b.alive ++ xs)
       (work_is stamp ids batches opened counted.1 stand.1 tell.1 read.1)

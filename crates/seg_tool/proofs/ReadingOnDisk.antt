@@ -1,5 +1,6 @@
 -- The printing of an index changes no image.
 use Rattle.std.proofs.Common.{ℕ, List, [], ◌∷◌, ◌++◌, Result, Ok, Err, IsTrue}
+use Rattle.seg_index_build.specs.MergedIndices.{listed_segments}
 use Rattle.seg_values.specs.declared.error.TantivyError.{TantivyError}
 use Rattle.seg_directory.proofs.Exports.{AllCalls, OnlyReads, keeps_disk, turns_kept, turns_on}
 use Rattle.seg_directory.specs.DiskChanges.{KeepsDisk}
@@ -10,7 +11,7 @@ use Rattle.seg_meta.specs.declared.index_meta.IndexMeta.{IndexMeta}
 use Rattle.seg_open.specs.OpenSegment.{OpenSegment}
 use Rattle.seg_open.specs.OpeningSteps.{Asked, Found, OpensSegments, all_steps, segment_steps}
 use Rattle.seg_open.proofs.Exports.{segment_only}
-use Rattle.seg_tool.specs.ReadingBack.{PrintsIndex, ReadsText, all_of, fails, listed_in, loaded, not_loaded, reads}
+use Rattle.seg_tool.specs.ReadingBack.{PrintsIndex, ReadsText, all_of, fails, loaded, not_loaded, reads}
 use Rattle.seg_tool.specs.declared.words.Detail.{Detail}
 
 -- ---- the steps only read
@@ -45,4 +46,4 @@ module _ (front label : List ℕ) (detail : Detail) (r : Result (List ℕ) Tanti
   prints_keep (not_loaded e is load) = load_keeps (Err e) a b told load
   prints_keep (loaded metas m load text) =
       turns_on told (load_keeps (Ok metas) a m told load)
-      (λ told_then same. turns_kept same (text_keeps front label detail r m b told_then (all_of (listed_in metas)) text))
+      (λ told_then same. turns_kept same (text_keeps front label detail r m b told_then (all_of (listed_segments metas)) text))

@@ -4,6 +4,7 @@ use Rattle.std.specs.List.{slice_get}
 use Rattle.std.specs.Option.{option_map}
 use Rattle.std.proofs.lemmas.List.{append-nil, length-map, take_all}
 use Rattle.std.proofs.lemmas.Option.{none-some}
+use Rattle.seg_index_build.specs.MergedIndices.{listed_segments}
 use Rattle.seg_values.specs.declared.error.TantivyError.{TantivyError}
 use Rattle.seg_values.specs.declared.error.TantivyError.TheVariants.{OutOfMemory}
 use Rattle.seg_directory.proofs.Exports.{does_nothing}
@@ -16,7 +17,7 @@ use Rattle.seg_open.specs.OpeningSteps.{Asked, Opens, OpensSegments, segment_ste
 use Rattle.seg_open.proofs.Exports.{none_yet, opens_turn, stops_turn, starves_after}
 use Rattle.seg_index_build.proofs.Exports.{starved}
 use Rattle.seg_tool.specs.Printing.{read_segment_text, read_texts}
-use Rattle.seg_tool.specs.ReadingBack.{PrintsIndex, ReadsText, all_of, all_of_one, fails, listed_in, loaded, not_loaded, reads}
+use Rattle.seg_tool.specs.ReadingBack.{PrintsIndex, ReadsText, all_of, all_of_one, fails, loaded, not_loaded, reads}
 use Rattle.seg_tool.specs.declared.words.Detail.{Detail}
 
 -- ---- memory runs out
@@ -86,10 +87,10 @@ all_printed front label detail segments i text a b done so =
 module _ (front label : List ℕ) (detail : Detail) (metas : IndexMeta) (a b : DirectoryState) (load : LoadsMetas (Ok metas) a b) where
   -- there is no memory for the list of its segments
   pub unlisted : PrintsIndex front label detail (Err OutOfMemory) a b
-  unlisted = loaded metas b load (fails OutOfMemory refl (starved (all_of (listed_in metas)) b))
+  unlisted = loaded metas b load (fails OutOfMemory refl (starved (all_of (listed_segments metas)) b))
 
   -- they are printed, or not
-  pub listed : (segments : List SegmentParts) (r : Result (List ℕ) TantivyError) (c : DirectoryState) → segments ≡ listed_in metas
+  pub listed : (segments : List SegmentParts) (r : Result (List ℕ) TantivyError) (c : DirectoryState) → segments ≡ listed_segments metas
       → ReadsText front label detail (all_of segments) r b c → PrintsIndex front label detail r a c
   listed segments r c is read = loaded metas b load (subst (λ (l : List SegmentParts). ReadsText front label detail (all_of l) r b c) is read)
 

@@ -3,7 +3,7 @@ use Rattle.std.proofs.Common.{◌≡◌, ℕ, zero, suc, ◌+◌, ◌<◌, ◌�
 use Rattle.std.specs.Prelude.{nat_lt, if◌then◌else◌}
 use Rattle.std.proofs.lemmas.Bool.{ltb-true, ltb-false}
 use Rattle.std.proofs.lemmas.List.{drop_all, length-map}
-use Rattle.seg_termdict.specs.Dictionary.{Term}
+use Rattle.seg_segment.proofs.Exports.{term_of}
 use Rattle.seg_termdict.specs.SortedTerms.{RankedTerm}
 use Rattle.seg_termdict.specs.TermStreams.{Stream, no_ranked, no_term, current, advanced, ranked_terms}
 use Rattle.seg_termdict.proofs.Exports.{ranked_at, ranked_length, ranked_of}
@@ -12,9 +12,6 @@ use Rattle.seg_postings.specs.OpenedFields.{ReadTerm, OpenField, dictionary_term
 use Rattle.seg_generate.specs.declared.summary.TermTotals.{TermTotals}
 use Rattle.seg_tool.specs.Summaries.{with_terms}
 use Rattle.seg_tool.proofs.TermSums.{with_both, with_none}
-
-abbrev term_of : ReadTerm → Term
-term_of t = (t.bytes, t.info)
 
 -- the bytes of a term
 abbrev pub bytes_of : ReadTerm → List ℕ
@@ -27,23 +24,23 @@ next_bytes [] i key lt is = absurd (omega (arith, lt))
 next_bytes (t ∷ ts) zero key lt is = ap (λ k. k ∷ map bytes_of ts) (sym is)
 next_bytes (t ∷ ts) (suc i) key lt is = next_bytes ts i key (omega (arith, lt)) is
 
-abbrev one_further : Stream → Stream
+abbrev pub one_further : Stream → Stream
 one_further s = record { terms = s.terms; backward = s.backward; taken = s.taken + 1 }
 
 -- where a stream goes on
-further : (s after : Stream) → nat_lt s.taken (length s.terms) ≡ true → after ≡ advanced s → after ≡ one_further s
+pub further : (s after : Stream) → nat_lt s.taken (length s.terms) ≡ true → after ≡ advanced s → after ≡ one_further s
 further s after more is = is ∙ ap (λ b. if b then one_further s else s) more
 
 module _ (f : OpenField) (s after : Stream) (of : s.terms ≡ ranked_terms (dictionary_terms f)) (more : nat_lt s.taken (length s.terms) ≡ true) (is : after ≡ advanced s) where
   pub still_of : after.terms ≡ ranked_terms (dictionary_terms f)
   still_of = ap (λ (x : Stream). x.terms) (further s after more is) ∙ of
 
-  within : s.taken < length f.terms
+  pub within : s.taken < length f.terms
   within =
       let lt : s.taken < length s.terms = ltb-true _ _ more in
       omega (arith, lt, ap length of, ranked_length (dictionary_terms f), length-map f.terms term_of)
 
-  come_to : current after ≡ ranked_of (s.taken, get_or (dictionary_terms f) s.taken no_term)
+  pub come_to : current after ≡ ranked_of (s.taken, get_or (dictionary_terms f) s.taken no_term)
   come_to =
       ap current (further s after more is)
       ∙ ap (λ k. get_or (no_ranked ∷ s.terms) k no_ranked) (add-one s.taken)

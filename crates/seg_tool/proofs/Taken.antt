@@ -5,6 +5,7 @@ use Rattle.std.specs.List.{list_any}
 use Rattle.std.proofs.lemmas.Bool.{or_from}
 use Rattle.std.proofs.lemmas.List.Folds.{list_any-append}
 use Rattle.std.proofs.Math.Bool.{or-true}
+use Rattle.seg_index_build.specs.MergedIndices.{listed_segments}
 use Rattle.seg_common.specs.declared.name.FileName.TheVariants.{Meta}
 use Rattle.seg_directory.proofs.Exports.{all_went}
 use Rattle.seg_directory.specs.Files.{NamedFiles}
@@ -21,7 +22,7 @@ use Rattle.seg_index_build.specs.TakenBatches.{HoldsTaken, gained}
 use Rattle.seg_index_build.specs.TwoDirectories.{Directories}
 use Rattle.seg_index_build.proofs.Exports.{builds_seen, gained_as, holds_taken, told_both}
 use Rattle.seg_tool.specs.Printing.{opening}
-use Rattle.seg_tool.specs.ReadingBack.{PrintsIndex, all_of, fails, listed_in, loaded, not_loaded, reads}
+use Rattle.seg_tool.specs.ReadingBack.{PrintsIndex, all_of, fails, loaded, not_loaded, reads}
 use Rattle.seg_tool.specs.Taken.{before_meta, reads_meta}
 use Rattle.seg_tool.specs.declared.words.Detail.{Detail}
 use Rattle.seg_tool.proofs.BuildLaws.{Printed, output_stays}
@@ -78,14 +79,14 @@ module _ (front label : List ℕ) (detail : Detail) (a b : DirectoryState) (text
   reads_back (not_loaded e is load) = absurd (cc is)
   reads_back (loaded metas m load (fails e is h)) = absurd (cc is)
   reads_back (loaded metas m load (reads opened is h)) =
-      let opening : List Answer = all_told (all_steps (all_of (listed_in metas)) h.found) in
+      let opening : List Answer = all_told (all_steps (all_of (listed_segments metas)) h.found) in
       record {
         bytes = load.bytes;
         rest = opening;
         seen =
             (all_went h.works).seen ∙ ap (λ l. l ++ opening) (all_went load.from_bytes.works).seen
             ∙ append_assoc a.seen (answer.Read Meta load.bytes ∷ []) opening;
-        once = no_meta (all_of (listed_in metas)) h.found;
+        once = no_meta (all_of (listed_segments metas)) h.found;
       }
 
 -- ---- both indexes are written and printed

@@ -8,11 +8,10 @@ use Rattle.seg_model.specs.Input.{Input}
 use Rattle.seg_model.specs.Refusals.{build_refusal}
 use Rattle.seg_model.specs.ValidInputs.{Known, input_refusal}
 use Rattle.seg_check.specs.AdmittedInputs.{IsValidIf}
-use Rattle.seg_index_build.specs.BuildOutcomes.{IsWhyUntold}
+use Rattle.seg_index_build.specs.BuildOutcomes.{IsWhyUntold, AreEmpty}
 use Rattle.seg_index_build.specs.IndexFiles.{IsMergedIndexOf, IsOutputIndexOf, IsWorkIndexOf}
 use Rattle.seg_index_build.specs.TakenBatches.{HoldsTaken, gained}
 use Rattle.seg_index_build.specs.TwoDirectories.{Directories}
-use Rattle.seg_tool.specs.Jobs.{AreEmpty}
 use Rattle.seg_tool.specs.Run.{Gains, GainsPart, IsTextOfInput}
 use Rattle.seg_tool.specs.Runs.{SinkState}
 use Rattle.seg_tool.specs.Statuses.{IfRefused, IfWritten}

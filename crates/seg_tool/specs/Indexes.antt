@@ -1,6 +1,7 @@
 -- What `merge` and `show` leave and print, where the directories tell their files.
 use Rattle.std.specs.Prelude.{ℕ, ◌≡◌, ◌≢◌, ◌<◌, ◌^◌, List, [], ◌∷◌, ◌++◌, map, replicate, true, Some, None, Ok, IsTrue, is_some, codes}
 use Rattle.std.specs.List.{AllByRecursion}
+use Rattle.seg_segment.specs.AliveFiles.{HoldsMarks}
 use Rattle.seg_common.specs.FaultCounts.{Rose}
 use Rattle.seg_directory.specs.Files.{NamedFiles}
 use Rattle.seg_directory.specs.DirectoryStates.{DirectoryState}
@@ -16,7 +17,7 @@ use Rattle.seg_segment.specs.IndexForms.{segment_forms}
 use Rattle.seg_segment.specs.FileContents.{Holds}
 use Rattle.seg_open.specs.OpenSegment.{OpenSegment, contents_of, kept_count}
 use Rattle.seg_open.specs.OpeningSteps.{Asked}
-use Rattle.seg_index_build.specs.MergeAnswers.{AllHaveHeld, HoldsMarks}
+use Rattle.seg_index_build.specs.MergeAnswers.{AllHaveHeld}
 use Rattle.seg_index_build.specs.MergedSegments.{is_live, joined, live_asked, live_documents, output_meta_of}
 use Rattle.seg_index_build.specs.TwoDirectories.{Directories}
 use Rattle.seg_text.specs.SegmentText.{segment_text}

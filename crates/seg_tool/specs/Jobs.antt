@@ -1,6 +1,7 @@
 -- What the jobs of the program do with the two directories, in turn, and what text they make.
 use Rattle.std.specs.Prelude.{ℕ, ◌≡◌, ◌≢◌, ◌⊎◌, ◌-◌, ◌^◌, List, [], map, codes, Some, None, Result, Ok, Err, IfErr, IfOk, IfSome, IsTrue, OnOk}
 use Rattle.std.specs.FinMap.{len}
+use Rattle.seg_index_build.specs.MergedIndices.{listed_segments}
 use Rattle.seg_values.specs.declared.error.TantivyError.{TantivyError}
 use Rattle.seg_values.specs.declared.error.TantivyError.TheVariants.{IndexAlreadyExists, OutOfMemory}
 use Rattle.seg_directory.specs.DirectoryStates.{HasOnly, IsEmptyDisk, LeavesOnly}
@@ -14,7 +15,7 @@ use Rattle.seg_model.specs.ValidInputs.{Known, input_refusal}
 use Rattle.seg_open.specs.OpeningSteps.{IsNoDamage}
 use Rattle.seg_check.specs.AdmittedInputs.{IsValidIf}
 use Rattle.seg_index_build.specs.FilesAfterCrash.{AreMergeOf, MayBeMerged}
-use Rattle.seg_index_build.specs.BuildOutcomes.{IsWhyUntold, LeavesBuilt}
+use Rattle.seg_index_build.specs.BuildOutcomes.{IsWhyUntold, LeavesBuilt, AreEmpty}
 use Rattle.seg_index_build.specs.DirectoryCalls.{BuildsIndexes}
 use Rattle.seg_index_build.specs.IndexFiles.{IsMergedIndexOf, IsOutputIndexOf, IsWorkIndexOf}
 use Rattle.seg_index_build.specs.MergeAnswers.{CanBeMerged, IsMergeError, IsMergeOf, IsWholeIndex, LiveAreWhole}
@@ -23,7 +24,7 @@ use Rattle.seg_index_build.specs.TwoDirectories.{Directories, InOutput, InWork, 
 use Rattle.seg_script.specs.Script.{script}
 use Rattle.seg_generate.specs.GeneratedInput.{generated}
 use Rattle.seg_tool.specs.Printing.{opening}
-use Rattle.seg_tool.specs.ReadingBack.{PrintsIndex, listed_in}
+use Rattle.seg_tool.specs.ReadingBack.{PrintsIndex}
 use Rattle.seg_tool.specs.Statuses.{status_of}
 use Rattle.seg_tool.specs.declared.status.Status.{Status}
 use Rattle.seg_tool.specs.declared.status.Status.TheVariants.{Memory, Script}
@@ -31,13 +32,6 @@ use Rattle.seg_tool.specs.declared.words.Detail.{Detail}
 use Rattle.seg_tool.specs.declared.words.Detail.TheVariants.{Brief, Full, Summary}
 
 -- ---- both indexes are built
-
--- directories without files, which they tell
-pub record AreEmpty (state : Directories) : Type 0 where
-  pub work_tells : IsTrue state.work.tells
-  pub work : len state.work.files ≡ 0
-  pub output_tells : IsTrue state.output.tells
-  pub output : len state.output.files ≡ 0
 
 -- they are written
 pub record Built (known : Known) (analyzer : Analyzer) (input : Input) (metas : IndexMeta) (before after : Directories) : Type 0 where
@@ -94,7 +88,7 @@ last_id = 2 ^ 128 - 1
 
 -- the segments that a meta lists are merged with its settings and no filter
 abbrev pub merge_of : IndexMeta → MergeInput
-merge_of metas = merge_input (listed_in metas) metas.index_settings (map (λ _. None) (listed_in metas)) last_id
+merge_of metas = merge_input (listed_segments metas) metas.index_settings (map (λ _. None) (listed_segments metas)) last_id
 
 -- what the merge of segments comes to
 pub record Merges (m : MergeInput) (result : Result IndexMeta TantivyError) (before after : Directories) : Type 0 where

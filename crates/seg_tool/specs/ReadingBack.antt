@@ -1,9 +1,10 @@
 -- The text of an index, of what a directory answers.
 use Rattle.std.specs.Prelude.{ℕ, ◌≡◌, List, ◌++◌, map, None, Result, Ok, Err}
+use Rattle.seg_index_build.specs.MergedIndices.{listed_segments}
 use Rattle.seg_values.specs.declared.error.TantivyError.{TantivyError}
 use Rattle.seg_directory.specs.DirectoryStates.{DirectoryState}
 use Rattle.seg_meta.specs.MetaSteps.{LoadsMetas}
-use Rattle.seg_meta.specs.Metas.{SegmentParts, segment_of}
+use Rattle.seg_meta.specs.Metas.{SegmentParts}
 use Rattle.seg_meta.specs.declared.index_meta.IndexMeta.{IndexMeta}
 use Rattle.seg_open.specs.OpenSegment.{OpenSegment}
 use Rattle.seg_open.specs.OpeningSteps.{Asked, Opens, OpensSegments}
@@ -17,10 +18,6 @@ all_of_one segment = record { segment = segment; custom = None }
 -- segments are, each so
 abbrev pub all_of : List SegmentParts → List Asked
 all_of segments = map all_of_one segments
-
--- the segments that a meta lists
-abbrev pub listed_in : IndexMeta → List SegmentParts
-listed_in metas = map (segment_of metas.schema) metas.segments
 
 -- a segment is opened, and its text is added; or it isn't, also where memory runs out once it is open
 abbrev pub PrintsNext : {T : Type 0} → List ℕ → Detail → SegmentParts → Result T TantivyError → List ℕ → List ℕ
@@ -44,5 +41,5 @@ pub data PrintsIndex (front label : List ℕ) (detail : Detail) (result : Result
   not_loaded : (e : TantivyError) → result ≡ Err e → LoadsMetas (Err e) before after
       → PrintsIndex front label detail result before after
   loaded : (metas : IndexMeta) (between : DirectoryState) → LoadsMetas (Ok metas) before between
-      → ReadsText front label detail (all_of (listed_in metas)) result between after
+      → ReadsText front label detail (all_of (listed_segments metas)) result between after
       → PrintsIndex front label detail result before after

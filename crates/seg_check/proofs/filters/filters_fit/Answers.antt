@@ -39,7 +39,7 @@ loop-cut-preserved c =
           ap (λ b. b && left) (sym c.if-not-filter_fits.false ∙ c.filter_fits.ensures (batch schema analyzer c.split_at.result.0.now c.split_at.result.1.now).alive)
           ∙ sym (one_batch schema analyzer c.args.filters.now c.args.cuts.now n c.loop-cut.from m c.in-Some.cut.now c.in-Some.filter.now c.loop-cut.left.now c.split_at.result.0.now c.split_at.result.1.now turn.0 turn.1 next (turn.2 _) (turn.3 _) c.split_at.ensures.front c.split_at.ensures.back)
           ∙ c.loop-cut.invariant.fit schema analyzer;
-      cuts = cut.behind;
+      cuts = cut.following;
       within = let rises = cut.rises in let long = c.split_at.ensures.back_len in let whole = c.loop-cut.invariant.within in omega arith;
     }
 

@@ -4,7 +4,7 @@ use Rattle.std.specs.List.{slice_get}
 use Rattle.seg_values.specs.ValueTrees.{tree_of}
 use Rattle.seg_model.specs.DocumentCheck.{json_refusal, positions_refusal}
 use Rattle.seg_check.specs.DocumentFields.{HasCut}
-use Rattle.seg_check.proofs.DocumentFields.{none-behind, none-here, rises-on, falls, take-more}
+use Rattle.seg_check.proofs.DocumentFields.{none-following, none-here, rises-on, falls, take-more}
 use Rattle.seg_check.proofs.positions.cut_texts.Goals as goal
 
 pub loop-at-init : goal.loop-at-init
@@ -41,7 +41,7 @@ loop-at-preserved g c =
     let before = subst (λ s. HasCut s F document (take i document) c.loop-at.cut) (sym same) c.loop-at.invariant.cut in
     let after = subst (λ s. HasCut s F document (take i document ++ (field, t) ∷ []) new) same (c.in_ok-add_pair.ensures.cut c.if-not-branch.false document (take i document) c.pair-field.ensures before) in
     record {
-      json = none-behind schema document i field t c.pair-field.ensures c.loop-at.invariant.json;
+      json = none-following schema document i field t c.pair-field.ensures c.loop-at.invariant.json;
       order = rises-on schema F document i field t c.pair-field.ensures here ∙ c.loop-at.invariant.order;
       cut = subst (λ came. HasCut schema F document came new) (sym (take-more schema F document i field t c.pair-field.ensures)) after;
     }

@@ -21,9 +21,9 @@ loop-value-preserved c =
     let count = c.args.num_rows in
     let v : RowNumber = get_or values at (record { row = 0; number = 0 }) in
     let vs = drop (at + 1) values in
-    let behind : suc at ≡ at + 1 = omega arith in
+    let after : suc at ≡ at + 1 = omega arith in
     let here : drop at values ≡ v ∷ vs =
-    drop-cons values at (record { row = 0; number = 0 }) c.loop-value-test.true ∙ ap (λ (n : ℕ). v ∷ drop n values) behind in
+    drop-cons values at (record { row = 0; number = 0 }) c.loop-value-test.true ∙ ap (λ (n : ℕ). v ∷ drop n values) after in
     let rise : Rise row_of low (v ∷ vs) = subst (Rise row_of low) here so_far.rise in
     let all = ap (λ (l : List RowNumber). c.loop-value.out.items ++ number_bytes (ends_from end (rows_from row_of low (count - low) l))) (sym here) ∙ so_far.all in
     record {

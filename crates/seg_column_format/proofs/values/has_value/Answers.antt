@@ -3,7 +3,7 @@ use Rattle.std.specs.List.{list_any}
 use Rattle.seg_columns.specs.declared.dynamic_column.DynamicColumn.{DynamicColumn}
 use Rattle.seg_column_format.specs.ModelColumns.{column_rows}
 use Rattle.seg_model.specs.Columns.{is_filled}
-use Rattle.seg_column_format.specs.SchemaColumns.{is_row_filled}
+use Rattle.seg_column_format.specs.SchemaColumns.{has_values}
 use Rattle.seg_column_format.proofs.FilledColumns.{mapped_rows}
 use Rattle.seg_column_format.proofs.values.has_value.Goals as goal
 
@@ -26,7 +26,7 @@ pub returns-in-DateTime : goal.returns-in-DateTime
 returns-in-DateTime c = c.is_used-in-DateTime.ensures ∙ (mapped_rows _ c.in-DateTime.values ∙ ap has_one (sym c.in-DateTime.is))
 
 pub returns-in-Bytes : goal.returns-in-Bytes
-returns-in-Bytes c = c.is_used-in-Bytes.ensures ∙ (ap (list_any is_row_filled) c.ords.ensures ∙ (mapped_rows _ c.in-Bytes.terms.ords ∙ ap has_one (sym c.in-Bytes.is)))
+returns-in-Bytes c = c.is_used-in-Bytes.ensures ∙ (ap (list_any has_values) c.ords.ensures ∙ (mapped_rows _ c.in-Bytes.terms.ords ∙ ap has_one (sym c.in-Bytes.is)))
 
 pub returns-in-Str : goal.returns-in-Str
-returns-in-Str c = c.is_used-in-Str.ensures ∙ (ap (list_any is_row_filled) c.ords-in-Str.ensures ∙ (mapped_rows _ c.in-Str.texts.ords ∙ ap has_one (sym c.in-Str.is)))
+returns-in-Str c = c.is_used-in-Str.ensures ∙ (ap (list_any has_values) c.ords-in-Str.ensures ∙ (mapped_rows _ c.in-Str.texts.ords ∙ ap has_one (sym c.in-Str.is)))

@@ -2,7 +2,7 @@ use Rattle.std.proofs.Common.{◌≡◌, ◌+◌, ◌++◌, ℕ, List, sym, ap, 
 use Rattle.std.proofs.lemmas.List.{append-nil}
 use Rattle.seg_columns.specs.Ends.{start_at}
 use Rattle.seg_column_format.specs.ColumnBytes.{number_bytes}
-use Rattle.seg_column_merge_parts.proofs.RowEnds.{ends_behind, first_ends, one_more_end}
+use Rattle.seg_column_merge_parts.proofs.RowEnds.{ends_after, first_ends, one_more_end}
 use Rattle.seg_column_merge_parts.proofs.RowValueBytes.{no_start}
 use Rattle.seg_column_merge_parts.proofs.row_ends.put_ends_after.Goals as goal
 
@@ -14,7 +14,7 @@ returns-then-before-eq0 c =
       bytes = c.in_ok-put_ends.ensures.bytes
           ∙ ap (λ (l : List ℕ). c.args.out.now.items ++ l)
           (first_ends ends c.put_ends.ensures.octets c.args.rows c.requires
-          ∙ ap (λ (n : ℕ). number_bytes (ends_behind n ends 0 c.args.rows)) (sym none));
+          ∙ ap (λ (n : ℕ). number_bytes (ends_after n ends 0 c.args.rows)) (sym none));
       end = omega (arith, none, c.start_at.ensures);
       fits = omega arith;
     }
@@ -46,7 +46,7 @@ returns c =
     let all : c.loop-row.row ≡ c.args.rows = omega (arith, c.loop-row-test.false, so_far.within) in
     record {
       bytes = so_far.bytes
-          ∙ ap (λ (n : ℕ). c.args.out.now.items ++ number_bytes (ends_behind c.args.before c.args.ends.now 0 n)) all;
+          ∙ ap (λ (n : ℕ). c.args.out.now.items ++ number_bytes (ends_after c.args.before c.args.ends.now 0 n)) all;
       end = so_far.end ∙ ap (λ (n : ℕ). c.args.before + start_at c.args.ends.now n) all;
       fits = so_far.fits;
     }

@@ -1,6 +1,7 @@
 use Rattle.std.proofs.Common.{◌≡◌}
 use Rattle.std.specs.Vec.Iter.{into_iter_items}
-use Rattle.seg_fastfield.specs.OpenFastFields.{first_of, of_type}
+use Rattle.seg_model.specs.DocumentCheck.{first_of}
+use Rattle.seg_fastfield.specs.OpenFastFields.{of_type}
 use Rattle.seg_fastfield.proofs.handles.handle_of.Given as goal
 
 -- the first one is among those that are left

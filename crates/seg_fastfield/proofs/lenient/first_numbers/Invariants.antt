@@ -1,5 +1,6 @@
 use Rattle.std.proofs.Common.{◌≡◌, drop}
-use Rattle.seg_fastfield.specs.OpenFastFields.{first_of, lenient}
+use Rattle.seg_model.specs.DocumentCheck.{first_of}
+use Rattle.seg_fastfield.specs.OpenFastFields.{lenient}
 use Rattle.seg_fastfield.proofs.lenient.first_numbers.Given as goal
 
 -- the first one is among those that are left

@@ -1,5 +1,6 @@
 use Rattle.std.proofs.Common.{◌≡◌, drop}
-use Rattle.seg_fastfield.specs.OpenFastFields.{bytes_column, first_of}
+use Rattle.seg_model.specs.DocumentCheck.{first_of}
+use Rattle.seg_fastfield.specs.OpenFastFields.{bytes_column}
 use Rattle.seg_fastfield.proofs.typed_columns.first_byte_strings.Given as goal
 
 -- the first one is among those that are left

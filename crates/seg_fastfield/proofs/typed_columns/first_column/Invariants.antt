@@ -1,5 +1,5 @@
 use Rattle.std.proofs.Common.{◌≡◌, drop}
-use Rattle.seg_fastfield.specs.OpenFastFields.{first_of}
+use Rattle.seg_model.specs.DocumentCheck.{first_of}
 use Rattle.seg_fastfield.proofs.typed_columns.first_column.Given as goal
 
 -- the first one is among those that are left

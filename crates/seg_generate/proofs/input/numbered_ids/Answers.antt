@@ -1,5 +1,5 @@
 use Rattle.std.proofs.Common.{◌≡◌, ◌+◌, ◌∙◌, ap, rules}
-use Rattle.seg_generate.proofs.NumberedLists.{number_more}
+use Rattle.seg_check.proofs.Exports.{number_more}
 use Rattle.seg_generate.proofs.input.numbered_ids.Goals as goal
 
 pub loop-before-preserved : goal.loop-before-preserved

@@ -1,10 +1,10 @@
 use Rattle.std.proofs.Common.{◌∙◌, [], ap}
+use Rattle.seg_build.proofs.Exports.{published_of}
 use Rattle.seg_directory.proofs.Exports.{answers, stops}
 use Rattle.seg_meta.specs.MetaMeaning.{meta_of, settings_of}
 use Rattle.seg_index_build.specs.IndexFiles.{segments_meta}
 use Rattle.seg_index_build.specs.WorkIndexSteps.{listing_meta}
 use Rattle.seg_index_build.proofs.FillSteps.{meta_list}
-use Rattle.seg_index_build.proofs.PublishSteps.{published_of}
 use Rattle.seg_index_build.proofs.work_index.save_work_index.Goals as goal
 
 pub save_index-requires : goal.save_index-requires

@@ -2,7 +2,7 @@ use Rattle.std.proofs.Common.{◌<◌, length, sym, ap, subst, ◌∙◌}
 use Rattle.std.specs.List.{AllByRecursion}
 use Rattle.seg_model.specs.DocumentTerms.{Posting}
 use Rattle.seg_merger.specs.MovedPostings.{moved, moved_from}
-use Rattle.seg_merger.proofs.SourcePostings.{any_has, left_are, left_within, moved_next, none_left, all_behind}
+use Rattle.seg_merger.proofs.SourcePostings.{any_has, left_are, left_within, moved_next, none_left, all_after}
 use Rattle.seg_segment.proofs.Exports.{AreGiven, all_given, given_more, may_take, none_given}
 use Rattle.seg_merger.proofs.term_merge.add_postings.Goals as goal
 
@@ -33,11 +33,11 @@ loop-kind-preserved c =
     let source = c.args.source.now in
     let left = c.loop-kind.postings.left in
     let all = moved_from key source in
-    let behind = c.advance.ensures.left in
+    let following = c.advance.ensures.left in
     record {
-      given = subst (AreGiven key c.args.writer.now c.add_current.new.writer all) (sym (ap (moved source.ids) behind))
+      given = subst (AreGiven key c.args.writer.now c.add_current.new.writer all) (sym (ap (moved source.ids) following))
           (given_more key c.args.writer.now all c.requires.takes c.loop-kind.writer (moved source.ids left) c.loop-kind.invariant.given _ _ (moved_next source.ids left) c.add_current.new.writer c.in_ok-add_current.ensures);
-      within = subst (AllByRecursion (λ (p : Posting). p.document < length source.ids)) (sym behind) (all_behind _ left c.loop-kind.invariant.within);
+      within = subst (AllByRecursion (λ (p : Posting). p.document < length source.ids)) (sym following) (all_after _ left c.loop-kind.invariant.within);
     }
 
 pub returns : goal.returns

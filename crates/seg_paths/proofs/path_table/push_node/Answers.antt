@@ -1,5 +1,5 @@
 use Rattle.std.proofs.Common.{◌<◌, ◌^◌, sym, subst, ◌∙◌}
-use Rattle.seg_paths.specs.Nodes.{asked}
+use Rattle.seg_column_format.specs.CompositeKeys.{asked}
 use Rattle.seg_paths.proofs.NodePaths.{keys-pushed}
 use Rattle.seg_paths.proofs.path_table.push_node.Goals as goal
 

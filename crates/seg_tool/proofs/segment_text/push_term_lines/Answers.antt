@@ -1,8 +1,10 @@
 use Rattle.std.proofs.Common.{◌≡◌, ◌++◌, ◌∙◌, true, ap, sym, drop, map, length}
 use Rattle.std.specs.Prelude.{nat_lt}
 use Rattle.std.specs.List.{flat_map}
+use Rattle.seg_segment.proofs.Exports.{pair_of}
+use Rattle.seg_tool.proofs.Streamed.{still_of}
 use Rattle.seg_text.specs.FieldText.{term_line}
-use Rattle.seg_tool.proofs.Printed.{info_held, pair_of, still_of, terms_done, terms_more}
+use Rattle.seg_tool.proofs.Printed.{info_held, terms_done, terms_more}
 use Rattle.seg_tool.proofs.segment_text.push_term_lines.Goals as goal
 
 pub loop-terms-preserved : goal.loop-terms-preserved

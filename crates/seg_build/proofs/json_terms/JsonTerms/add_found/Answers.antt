@@ -64,14 +64,14 @@ loop-found-preserved c =
     (subst (λ (ts : List Token). AddsLeaf document before after (slice_index_or before.terms.paths path [], leaf_with (ts ∷ []) l)) c.first_tokens-tokens.ensures c.in_ok-more.ensures.added) in
     let counted = c.in_ok-more.ensures.counted ∙ ap (λ (ts : List Token). leaf_count (leaf_with (ts ∷ []) l)) c.first_tokens-tokens.ensures in
     let own = slice_index_or table path [] in
-    let behind = c.texts_behind-rest.result.now in
-    let moved = c.texts_behind-rest.ensures in
+    let following = c.texts_after-rest.result.now in
+    let moved = c.texts_after-rest.ensures in
     record {
       same = adds.paths ∙ inv.same;
-      added = leaves_turn document before after texts own l _ _ is adds behind moved ∙ inv.added;
-      sum = count_turn document before after texts own l _ _ is adds behind moved c.loop-found.count c.in_ok-more.more c.saturating_add-count.result counted (omega (arith, c.saturating_add-count.ensures)) ∙ inv.sum;
+      added = leaves_turn document before after texts own l _ _ is adds following moved ∙ inv.added;
+      sum = count_turn document before after texts own l _ _ is adds following moved c.loop-found.count c.in_ok-more.more c.saturating_add-count.result counted (omega (arith, c.saturating_add-count.ensures)) ∙ inv.sum;
       few = omega (arith, c.saturating_add-count.ensures);
-      fits = fit_turn document before after texts own l _ _ is adds behind moved inv.fits;
+      fits = fit_turn document before after texts own l _ _ is adds following moved inv.fits;
       numbered = (subst (AllByRecursion (IsNumbered table)) cut inv.numbered).1;
     }
 

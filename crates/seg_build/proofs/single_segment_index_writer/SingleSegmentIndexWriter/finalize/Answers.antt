@@ -1,14 +1,14 @@
-use Rattle.std.proofs.Common.{◌≡◌, ◌∙◌, ◌<◌, ◌^◌, ℕ, List, IsTrue, Some, Result, Err, length, subst, sym}
+use Rattle.std.proofs.Common.{◌≡◌, ◌∙◌, ◌<◌, ◌^◌, ℕ, List, IsTrue, Some, length, subst, sym}
 use Rattle.std.specs.Prelude.{IfOk, OnOk}
 use Rattle.std.specs.FinMap.{get}
 use Rattle.std.proofs.lemmas.Result.{IfOk-weaker}
+use Rattle.seg_segment.proofs.Exports.{failing}
 use Rattle.seg_common.specs.declared.name.FileName.TheVariants.{Part}
 use Rattle.seg_common.specs.declared.name.SegmentComponent.TheVariants.{Postings, Store}
 use Rattle.seg_values.specs.Tree.{Document}
 use Rattle.seg_meta.specs.IndexOfFiles as index
 use Rattle.seg_meta.specs.MetaMeaning.{meta_of, settings_of}
 use Rattle.seg_meta.specs.declared.index.Index.{Index}
-use Rattle.seg_values.specs.declared.error.TantivyError.{TantivyError}
 use Rattle.seg_segment.specs.IndexForms.{segment_forms}
 use Rattle.seg_build.specs.FieldTerms.{fields_of}
 use Rattle.seg_build.specs.SegmentWriters.{Writes, document_count}
@@ -25,9 +25,6 @@ save_one_segment-requires g c = record {
       subst (λ (n : ℕ). n < 2 ^ 31) (sym c.max_doc-documents.ensures)
       (are_few (g.Z.Analyzers.tokens_of c.self.inside.writer.0) c.self.inside.writer.1 c.self.invariant.2);
 }
-
-abbrev failing : (T : Type 0) → TantivyError → Result T TantivyError
-failing T e = Err e
 
 -- ---- no segment is made
 

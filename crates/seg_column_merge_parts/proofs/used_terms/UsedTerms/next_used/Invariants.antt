@@ -4,6 +4,6 @@ use Rattle.seg_column_merge_parts.proofs.used_terms.UsedTerms.next_used.Given as
 
 abbrev pub invariant-loop-ord : goal.invariant-loop-ord
 invariant-loop-ord l = record {
-  behind : l.from ≤ l.ord;
+  later : l.from ≤ l.ord;
   none : NoneUsed l.self.used l.from l.ord;
 }

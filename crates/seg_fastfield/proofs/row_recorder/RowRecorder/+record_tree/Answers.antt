@@ -11,7 +11,7 @@ use Rattle.seg_model.specs.Leaves.{leaves_at, level_in_array}
 use Rattle.seg_model.specs.AcceptedTrees.{is_own_array}
 use Rattle.seg_paths.specs.NumberedLeaves.{leaf_in}
 use Rattle.seg_fastfield.specs.RecordedLeaves.{IsPlaceOf}
-use Rattle.seg_fastfield.proofs.PathNumbers.{can_be_above, key_behind, path_number, still_then, text_number}
+use Rattle.seg_fastfield.proofs.PathNumbers.{can_be_above, key_after, path_number, still_then, text_number}
 use Rattle.seg_fastfield.proofs.ColumnIds.{leaf_column}
 use Rattle.seg_fastfield.proofs.DocumentSteps.{can_record_leaf, in_level, popped, recorded_deep, recorded_leaf}
 use Rattle.seg_fastfield.proofs.LoopTurns.{is_leaf, member_turn, object_json, takes_tree, tree_turn}
@@ -124,7 +124,7 @@ record_tree-requires-in-loop-index g t c =
             c.requires.column,
             (
               c.in_ok-number-in-Object.ensures.more.known c.loop-index.columns inv.known.0,
-              key_behind entry c.requires.can.keys c.loop-index.path c.push_key.new.path key
+              key_after entry c.requires.can.keys c.loop-index.path c.push_key.new.path key
                   c.in_ok-number-in-Object.number c.key_number.new.self.paths
                   (inv.path ∙ c.requires.can.place.path_is) c.in_ok-push_key-in-Object.ensures
                   (c.in_ok-number-in-Object.ensures.number (join_with_byte 1 c.loop-index.path.keys)

@@ -1,5 +1,5 @@
 use Rattle.std.proofs.Common.{◌≡◌, [], ◌++◌, reverse, slice_index_or}
-use Rattle.seg_paths.specs.Paths.{IsAbove, steps, up}
+use Rattle.seg_paths.specs.Paths.{IsAbove, slot_of, up}
 use Rattle.seg_paths.proofs.path_table.PathTable.path_at.Given as goal
 
 -- the path of the place, with what is after it, is the whole
@@ -10,4 +10,4 @@ invariant-loop-place l = record {
 }
 
 abbrev pub decreases-loop-place : goal.decreases-loop-place
-decreases-loop-place l = steps l.place
+decreases-loop-place l = slot_of l.place

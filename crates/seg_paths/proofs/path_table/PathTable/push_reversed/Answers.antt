@@ -17,4 +17,4 @@ returns c =
     let up = steps-up nodes c.args.self.now c.args.number c.self.view_is c.requires c.self.invariant.1 node is
     c.args.out.now.items c.push_reversed.new.out.items c.in_ok-push_reversed.ensures in
     subst (λ above. StepsUp c.args.self.now c.args.number above c.args.out.now.items c.push_reversed.new.out.items)
-    (sym c.above.ensures) up
+    (sym c.head.ensures) up

@@ -1,10 +1,10 @@
--- The bytes of a key.
+-- The bytes of a term, as a table keeps them.
 use Rattle.std.specs.Prelude.{◌≡◌, ℕ, List, [], ◌∷◌, IsTrue}
 use Rattle.std.proofs.Common.{ap}
 use Rattle.std.specs.Cmp.Lexicographic.{bytes_decides}
 use Rattle.std.specs.Str.{bytes_eq}
-use Rattle.seg_terms.specs.declared.key.KeptBytes.{KeptBytes}
-use Rattle.seg_terms.specs.declared.key.KeptBytes.TheVariants.{Inline, Allocated}
+use Rattle.seg_column_format.specs.declared.term_key.KeptBytes.{KeptBytes}
+use Rattle.seg_column_format.specs.declared.term_key.KeptBytes.TheVariants.{Inline, Allocated}
 
 abbrev pub kept_bytes : KeptBytes → List ℕ
 kept_bytes (Inline bytes) = bytes.items

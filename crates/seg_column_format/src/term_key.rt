@@ -1,64 +1,81 @@
-//! The bytes of a value, as the table of a column's distinct values keeps them and is asked for them.
+//! The bytes of a term, as the table of terms keeps them and is asked for them.
 ghost use Rattle.std.specs.Prelude.{◌≡◌, [], ◌∷◌, IfOk};
 ghost use Rattle.std.specs.Cmp.{partial_equiv_from_equiv, on_equiv, on_per};
 ghost use Rattle.std.specs.Cmp.Lexicographic.{nat_list_eq_equiv};
 ghost use Rattle.std.specs.Str.{bytes_eq};
-ghost use Rattle.seg_column_format.specs.TermHashes.{same_input};
+ghost use Rattle.seg_column_format.specs.TermKeys.{kept_bytes, same_input};
 
+use arrayvec::ArrayVec;
 use indexmap::Equivalent;
 use std::alloc::{AllocError, Global};
 use std::hash::{Hash, Hasher};
 use std::marker::Model;
 
-/// The bytes of a text, of bytes or of an address.
-#[derive(Drop)]
-pub(crate) struct Term {
-    bytes: Vec<u8>,
+/// The most bytes of a key that lie in the value itself.
+const MAX_INLINE_LEN: usize = 16;
+
+/// The bytes of a term. Up to 16 of them take no memory besides the value.
+#[derive(Debug, Drop)]
+pub struct TermKey {
+    bytes: KeptBytes,
 }
 
-impl Model for Term {
+#[derive(Debug, Drop)]
+enum KeptBytes {
+    Inline(ArrayVec<u8, MAX_INLINE_LEN>),
+    Allocated(Vec<u8>),
+}
+
+impl Model for TermKey {
     ghost use Rattle.std.specs.Prelude.{List, ℕ};
+    ghost use Rattle.seg_column_format.specs.TermKeys.{kept_bytes};
 
     ghost Value = { List ℕ };
 
-    ghost view = { λ t. t.bytes.items };
+    ghost view = { λ k. kept_bytes k.bytes };
 }
 
-impl Term {
-    pub fn copy_of(alloc: Global, bytes: &[u8]) -> Result<Term, AllocError>
-        ensures { IfOk result (λ term. term ≡ bytes.now) }
+impl TermKey {
+    pub fn copy_of(alloc: Global, bytes: &[u8]) -> Result<TermKey, AllocError>
+        ensures { IfOk result (λ key. key ≡ bytes.now) }
     {
-        Ok(Term {
-            bytes: Vec::from_slice(alloc, bytes)?,
-        })
+        let mut inline = ArrayVec::new();
+        let bytes = match inline.try_extend_from_slice(bytes) {
+            Ok(()) => KeptBytes::Inline(inline),
+            Err(_) => KeptBytes::Allocated(Vec::from_slice(alloc, bytes)?),
+        };
+        Ok(TermKey { bytes })
     }
 
     #[inline]
     pub fn as_slice(&self) -> &[u8]
         ensures { result.now ≡ self.now }
     {
-        &self.bytes
+        match &self.bytes {
+            KeptBytes::Inline(bytes) => bytes.as_slice(),
+            KeptBytes::Allocated(bytes) => bytes.as_slice(),
+        }
     }
 }
 
-impl PartialEq for Term {
+impl PartialEq for TermKey {
     ghost eq = { bytes_eq };
 
     ghost laws = { partial_equiv_from_equiv nat_list_eq_equiv };
 
     #[inline]
-    fn eq(&self, other: &Term) -> bool {
+    fn eq(&self, other: &TermKey) -> bool {
         self.as_slice() == other.as_slice()
     }
 }
 
-impl Eq for Term {
+impl Eq for TermKey {
     ghost laws = { nat_list_eq_equiv };
 }
 
 /// All bytes are written at once, without their number.
-impl Hash for Term {
-    ghost hash_input = { λ term. term ∷ [] };
+impl Hash for TermKey {
+    ghost hash_input = { λ key. key ∷ [] };
 
     ghost respects_eq = { same_input };
 
@@ -68,9 +85,9 @@ impl Hash for Term {
     }
 }
 
-/// Bytes by which a `Term` is looked up.
-#[derive(Clone, Copy)]
-pub(crate) struct TermBytes<'a> {
+/// What a `TermKey` is looked up by.
+#[derive(Debug, Clone, Copy)]
+pub struct TermBytes<'a> {
     pub bytes: &'a [u8],
 }
 
@@ -100,15 +117,15 @@ impl<'a> Hash for TermBytes<'a> {
     }
 }
 
-impl<'a> Equivalent<Term> for TermBytes<'a> {
-    ghost equivalent = { λ q term. bytes_eq q.bytes.now term };
+impl<'a> Equivalent<TermKey> for TermBytes<'a> {
+    ghost equivalent = { λ q key. bytes_eq q.bytes.now key };
 
-    ghost respects_hash = { λ q term. same_input q.bytes.now term };
+    ghost respects_hash = { λ q key. same_input q.bytes.now key };
 
     ghost respects_eq = { λ q x y. nat_list_eq_equiv.congr q.bytes.now x y };
 
     #[inline]
-    fn equivalent(&self, term: &Term) -> bool {
-        self.bytes == term.as_slice()
+    fn equivalent(&self, key: &TermKey) -> bool {
+        self.bytes == key.as_slice()
     }
 }
