@@ -1,8 +1,10 @@
 -- Why a batch is not written: no writer can be started, or the batch is refused.
-use Rattle.std.proofs.Common.{◌≡◌, ◌∙◌, ℕ, List, Option, Some, None, Result, Ok, Err, refl, sym, ap, subst, inl, inr}
-use Rattle.std.specs.Prelude.{◌⊎◌, IfErr, IfSome, OnOk}
+use Rattle.std.proofs.Common.{◌≡◌, ◌∙◌, ℕ, List, [], ◌∷◌, Option, Some, None, Result, Ok, Err, refl, sym, ap, subst, inl, inr}
+use Rattle.std.specs.Prelude.{◌⊎◌, IfErr, IfSome}
 use Rattle.std.specs.List.{enumerate_from}
 use Rattle.std.specs.Option.{option_or}
+use Rattle.std.proofs.lemmas.List.{append-nil}
+use Rattle.seg_common.proofs.Results.{at_ok}
 use Rattle.seg_values.specs.declared.error.TantivyError.{TantivyError}
 use Rattle.seg_values.specs.declared.error.TantivyError.TheVariants.{OutOfMemory}
 use Rattle.seg_directory.specs.DirectoryStates.{DirectoryState}
@@ -17,8 +19,7 @@ use Rattle.seg_segment.specs.declared.segment_files.SegmentFiles.{SegmentFiles}
 use Rattle.seg_check.specs.WriterStart.{start_refusal}
 use Rattle.seg_model.specs.Refusals.{IsRefusal, batch_error}
 use Rattle.seg_model.specs.CheckAnswers.{Tells}
-use Rattle.seg_batches.specs.BatchWriteSteps.{MakesBatch, StandAndTell, batch_cause}
-use Rattle.seg_batches.proofs.WrittenBatches.{no_files}
+use Rattle.seg_batches.specs.BatchWriteSteps.{MakesBatches, StandAndTell, batch_cause, batch_steps}
 
 -- ---- causes that are told
 
@@ -73,10 +74,11 @@ IsFirst causes e = first_of (λ o. o) causes ≡ Some e
 module _ (cause : Option TantivyError) (schema : Schema) (block_size : ℕ) (analyzer : Analyzer) (id : ℕ) (batch : Batch) where
   -- no file of it is made
   pub not_begun : {T : Type 0} (e : TantivyError) (a : DirectoryState) → (cause ≡ Some e) ⊎ (e ≡ OutOfMemory)
-      → MakesBatch {T = T} cause schema block_size analyzer id batch (Err e) a a
+      → MakesBatches {T = T} (cause ∷ []) schema block_size analyzer (id ∷ []) (batch ∷ []) (Err e) a a
   not_begun e a h = record {
-    files = no_files;
+    files = [];
     stand = tt;
+    whole = tt;
     works = record {
       on = elim h [
         | inl is ↦ inr (inr (is, refl))
@@ -88,13 +90,12 @@ module _ (cause : Option TantivyError) (schema : Schema) (block_size : ℕ) (ana
   -- its files are written
   pub begun : {T : Type 0} (files : SegmentFiles) (r : Result T TantivyError) (a b : DirectoryState) → cause ≡ None
       → StandAndTell schema block_size analyzer batch.documents files → Works (write_steps id files) r a b
-      → MakesBatch cause schema block_size analyzer id batch r a b
+      → MakesBatches (cause ∷ []) schema block_size analyzer (id ∷ []) (batch ∷ []) r a b
   begun files r a b none stand works = record {
-    files = files;
-    stand = on_ok r;
-    works = record { on = inl (a, (none, refl), works.on) };
+    files = files ∷ [];
+    stand = (stand, tt);
+    whole = at_ok r refl;
+    works =
+        subst (λ steps. Works steps r a b) (sym (append-nil (batch_steps id cause files)))
+        (record { on = inl (a, (none, refl), works.on) });
   }
-    where
-      on_ok : {T : Type 0} (x : Result T TantivyError) → OnOk x (StandAndTell schema block_size analyzer batch.documents files)
-      on_ok (Ok y) = stand
-      on_ok (Err e) = tt

@@ -36,7 +36,11 @@ fresh_on : {T : Type 0} (ids : List ℕ) (causes : List (Option TantivyError)) (
     → GoesOn StepGoes StepBreaks OutOfMemory (batches_steps ids causes files) r a c → r ≢ Err IndexAlreadyExists
 fresh_on [] causes files r a c tell distinct told absent on = never_there {steps = []} told tt (record { on = on })
 fresh_on (id ∷ ids) [] files r a c tell distinct told absent on = never_there {steps = []} told tt (record { on = on })
-fresh_on (id ∷ ids) (cause ∷ causes) [] r a c tell distinct told absent on = never_there {steps = []} told tt (record { on = on })
+fresh_on (id ∷ ids) (cause ∷ causes) [] r a c tell distinct told absent (inl w) =
+    never_there {steps = []} (subst (λ (s : DirectoryState). IsTrue s.tells) (sym w.1.1) told) tt (record { on = w.2 })
+fresh_on (id ∷ ids) (cause ∷ causes) [] (Ok x) a c tell distinct told absent (inr no_error) = absurd no_error
+fresh_on {T = T} (id ∷ ids) (cause ∷ causes) [] (Err e) a c tell distinct told absent (inr (inl starved)) = λ at. cc (sym starved.0 ∙ error_is (let r : Result T TantivyError = Err e in r) e IndexAlreadyExists refl at)
+fresh_on {T = T} (id ∷ ids) (cause ∷ causes) [] (Err e) a c tell distinct told absent (inr (inr breaks)) = λ at. exists_is_none cause e tell.0 breaks.0 (error_is (let r : Result T TantivyError = Err e in r) e IndexAlreadyExists refl at)
 fresh_on (id ∷ ids) (cause ∷ causes) (f ∷ files) r a c tell distinct told absent (inl w) =
     let told_here = subst (λ (s : DirectoryState). IsTrue s.tells) (sym w.1.1) told in
     let absent_here = subst (λ (s : DirectoryState). AreAbsent (six_files (id ∷ ids)) s.files) (sym w.1.1) absent in
@@ -60,7 +64,9 @@ batches_fresh ids causes files r a c tell distinct works told absent = fresh_on 
 told_on : (T : Type 0) (ids : List ℕ) (causes : List (Option TantivyError)) (files : List SegmentFiles) (e : TantivyError) (a c : DirectoryState) → GoesOn {T = T} StepGoes StepBreaks OutOfMemory (batches_steps ids causes files) (Err e) a c → IfRefusal (IsFirst causes) e
 told_on T [] causes files e a c on = of_memory (IsFirst causes) e on.1
 told_on T (id ∷ ids) [] files e a c on = of_memory (IsFirst []) e on.1
-told_on T (id ∷ ids) (cause ∷ causes) [] e a c on = of_memory (IsFirst (cause ∷ causes)) e on.1
+told_on T (id ∷ ids) (cause ∷ causes) [] e a c (inl w) = of_memory (IsFirst (cause ∷ causes)) e w.2.1
+told_on T (id ∷ ids) (cause ∷ causes) [] e a c (inr (inl starved)) = of_memory (IsFirst (cause ∷ causes)) e starved.0
+told_on T (id ∷ ids) (cause ∷ causes) [] e a c (inr (inr breaks)) = if_refusal (IsFirst (cause ∷ causes)) e (ap (λ o. option_or o (first_of (λ p. p) causes)) breaks.0)
 told_on T (id ∷ ids) (cause ∷ causes) (f ∷ files) e a c (inl w) =
     let failed : Result T TantivyError = Err e in
     elim (parts_on (write_steps id f) (batches_steps ids causes files) failed w.0 c w.2) [

@@ -51,5 +51,5 @@ module _ (schema : Schema) (analyzer : Analyzer) where
       → length causes ≡ length ids → are_distinct ids ≡ true → MakesBatches causes schema size analyzer ids batches r a b
       → IsTrue a.tells → OnOk r (AllHaveTotals schema analyzer b.files ids batches)
   all_totals size causes ids batches (Ok x) a b as_many distinct w told =
-      subst (λ (now : NamedFiles). AllHaveTotals schema analyzer now ids batches) (sym ((all_went w.works).files told)) (steps_tell size ids causes w.files batches a.files w.many as_many distinct w.stand)
+      subst (λ (now : NamedFiles). AllHaveTotals schema analyzer now ids batches) (sym ((all_went w.works).files told)) (steps_tell size ids causes w.files batches a.files w.whole as_many distinct w.stand)
   all_totals size causes ids batches (Err e) a b as_many distinct w told = tt

@@ -1,23 +1,19 @@
 -- The segments of batches, written one after another: those so far, and those that are left.
-use Rattle.std.proofs.Common.{◌≡◌, ◌∙◌, ℕ, ◌+◌, ◌≤◌, List, [], ◌∷◌, ◌++◌, map, length, drop, append_assoc, Option, Some, Ok, Err, refl, sym, ap, subst, inl, inr, arith}
+use Rattle.std.proofs.Common.{◌≡◌, ◌∙◌, ℕ, ◌+◌, ◌≤◌, List, [], ◌∷◌, ◌++◌, map, length, drop, append_assoc, Option, Some, Result, Ok, Err, refl, sym, ap, subst, inl, inr, arith}
 use Rattle.std.specs.List.{slice_get}
-use Rattle.std.proofs.lemmas.List.{append-nil, drop_all, length-append, length-map}
+use Rattle.std.proofs.lemmas.List.{append-nil, drop_all, length-append}
 use Rattle.seg_common.proofs.Lists.{drop-slice_get}
 use Rattle.seg_values.specs.declared.error.TantivyError.{TantivyError}
 use Rattle.seg_values.specs.declared.error.TantivyError.TheVariants.{OutOfMemory}
 use Rattle.seg_directory.proofs.Exports.{answers, does_nothing, stops, then_does}
 use Rattle.seg_directory.specs.DirectoryStates.{DirectoryState}
-use Rattle.seg_directory.specs.DirectorySteps.{Step, Works}
+use Rattle.seg_directory.specs.DirectorySteps.{Step, Works, passes}
 use Rattle.seg_model.specs.Fields.{Schema, Analyzer}
 use Rattle.seg_model.specs.Operations.{Operation, Batch}
 use Rattle.seg_segment.specs.declared.segment_files.SegmentFiles.{SegmentFiles}
 use Rattle.seg_batches.specs.WrittenSegments.{WrittenSegment, segment_of, segments_of}
-use Rattle.seg_batches.specs.BatchWriteSteps.{AllStandFor, MakesBatch, MakesBatches, batch_between, batch_cause, batch_steps, batches_steps}
+use Rattle.seg_batches.specs.BatchWriteSteps.{AllStandFor, MakesBatches, batch_between, batch_cause, batch_steps, batches_steps}
 use Rattle.seg_batches.proofs.BatchTurns.{Turn, batches_left, part_here, parts_left}
-
--- the files of a batch that was not begun
-abbrev pub no_files : SegmentFiles
-no_files = record { terms = []; store = []; postings = []; positions = []; fast_fields = []; field_norms = [] }
 
 module _ (causes : List (Option TantivyError)) (schema : Schema) (size : ℕ) (analyzer : Analyzer) (ids : List ℕ)
     (batches : List Batch) where
@@ -42,22 +38,21 @@ module _ (causes : List (Option TantivyError)) (schema : Schema) (size : ℕ) (a
     -- there is no memory for the others
     pub starves : {T : Type 0} → MakesBatches {T = T} causes schema size analyzer ids batches (Err OutOfMemory) a b
     starves {T = T} = record {
-      files = so_far.files ++ map (λ _. no_files) ids_left;
-      many =
-          omega (arith, length-append so_far.files (map (λ _. no_files) ids_left), length-map ids_left (λ (_ : ℕ). no_files), so_far.many);
-      stand = tt;
+      files = so_far.files ++ [];
+      stand = so_far.stand [] (omega arith) tt;
+      whole = tt;
       works =
-          subst (λ steps. Works {T = T} steps (Err OutOfMemory) a b) (sym (so_far.are (map (λ _. no_files) ids_left)))
-          (then_does so_far.works (does_nothing (batches_steps ids_left causes_left (map (λ _. no_files) ids_left))));
+          subst (λ steps. Works {T = T} steps (Err OutOfMemory) a b) (sym (so_far.are []))
+          (then_does so_far.works (does_nothing (batches_steps ids_left causes_left [])));
     }
 
     -- none is left
     pub all_written : {T : Type 0} (x : T) → ids_left ≡ [] → MakesBatches causes schema size analyzer ids batches (Ok x) a b
     all_written x gone = record {
       files = so_far.files ++ [];
-      many =
-          omega (arith, length-append so_far.files (let none : List SegmentFiles = [] in none), so_far.many, ap length gone);
       stand = so_far.stand [] (omega arith) tt;
+      whole =
+          omega (arith, length-append so_far.files (let none : List SegmentFiles = [] in none), so_far.many, ap length gone);
       works =
           subst (λ steps. Works steps (Ok x) a b) (sym (so_far.are [] ∙ ap (λ is. so_far.steps ++ batches_steps is causes_left []) gone)) (then_does so_far.works (record { on = (refl, tt) }));
     }
@@ -114,6 +109,13 @@ module _ (start : Option TantivyError) (schema : Schema) (size : ℕ) (analyzer 
         ∙ ap (λ steps. batch_steps id cause f ++ steps) (ap (λ l. batches_steps l [] next) (no_ids last.0) ∙ sym (ap (λ l. batches_steps l causes_then next) (no_ids last.0)))
   ]
 
+  -- where it has no files it is tested, and no more
+  test_here : batches_steps (drop at ids) causes_now [] ≡ passes cause ∷ []
+  test_here = ap (λ l. batches_steps l causes_now []) (drop-slice_get ids at id found) ∙ elim t.is_first [
+    | inl more ↦ ap (λ parts. batches_steps (id ∷ drop (at + 1) ids) (map (batch_cause start schema analyzer) parts) []) more.2
+    | inr last ↦ ap (λ parts. batches_steps (id ∷ drop (at + 1) ids) (map (batch_cause start schema analyzer) parts) []) last.2
+  ]
+
   -- and what its files stand for
   stand_here : (f : SegmentFiles) (next : List SegmentFiles) → AllStandFor schema size analyzer (f ∷ []) (this ∷ [])
       → length next ≤ length (drop (at + 1) ids) → AllStandFor schema size analyzer next left_then
@@ -130,40 +132,84 @@ module _ (start : Option TantivyError) (schema : Schema) (size : ℕ) (analyzer 
   left_is : length (drop at ids) ≡ 1 + length (drop (at + 1) ids)
   left_is = let same : length (drop at ids) ≡ length (id ∷ drop (at + 1) ids) = ap length (drop-slice_get ids at id found) in omega (arith, same)
 
+  -- it alone
+  abbrev pub Makes : {T : Type 0} → Result T TantivyError → DirectoryState → DirectoryState → Type 0
+  Makes r b c = MakesBatches (cause ∷ []) schema size analyzer (id ∷ []) (this ∷ []) r b c
+
+  one_works : {T : Type 0} (f : SegmentFiles) (r : Result T TantivyError) (b c : DirectoryState)
+      → Works (batch_steps id cause f ++ []) r b c → Works (batch_steps id cause f) r b c
+  one_works f r b c = subst (λ steps. Works steps r b c) (append-nil (batch_steps id cause f))
+
   module _ (causes : List (Option TantivyError)) (batches : List Batch) (a b c : DirectoryState)
       (so_far : SoFar causes schema size analyzer ids batches (drop at ids) causes_now left_now a b) where
+    -- its files come after those so far
+    are_more : (f : SegmentFiles) (next : List SegmentFiles)
+        → batches_steps ids causes (so_far.files ++ f ∷ next)
+        ≡ so_far.steps ++ (batch_steps id cause f ++ batches_steps (drop (at + 1) ids) causes_then next)
+    are_more f next = so_far.are (f ∷ next) ∙ ap (λ steps. so_far.steps ++ steps) (steps_here f next)
+
+    stand_more : (f : SegmentFiles) (next : List SegmentFiles) → AllStandFor schema size analyzer (f ∷ []) (this ∷ [])
+        → length next ≤ length (drop (at + 1) ids) → AllStandFor schema size analyzer next left_then
+        → AllStandFor schema size analyzer (so_far.files ++ f ∷ next) batches
+    stand_more f next here few h = so_far.stand (f ∷ next) (omega (arith, few, left_is)) (stand_here f next here few h)
+
     -- it is written
-    pub batch_more : {T : Type 0} (x : T) → MakesBatch cause schema size analyzer id this (Ok x) b c
+    pub batch_more : {T : Type 0} (x : T) → Makes (Ok x) b c
         → SoFar causes schema size analyzer ids batches (drop (at + 1) ids) causes_then left_then a c
-    batch_more x here = record {
-      files = so_far.files ++ here.files ∷ [];
-      steps = so_far.steps ++ batch_steps id cause here.files;
-      works = then_does so_far.works (answers here.works);
-      many = omega (arith, so_far.many, left_is, length-append so_far.files (here.files ∷ []));
-      are = λ next.
-          ap (batches_steps ids causes) (append_assoc so_far.files (here.files ∷ []) next)
-          ∙ so_far.are (here.files ∷ next)
-          ∙ ap (λ steps. so_far.steps ++ steps) (steps_here here.files next)
-          ∙ sym (append_assoc so_far.steps (batch_steps id cause here.files) (batches_steps (drop (at + 1) ids) causes_then next));
-      stand = λ next few h.
-          subst (λ fs. AllStandFor schema size analyzer fs batches) (sym (append_assoc so_far.files (here.files ∷ []) next))
-          (so_far.stand (here.files ∷ next) (omega (arith, few, left_is)) (stand_here here.files next (here.stand, tt) few h));
-    }
+    batch_more {T = T} x here = by here.files here.whole here.stand here.works
+      where
+        one_more : (f : SegmentFiles) → AllStandFor schema size analyzer (f ∷ []) (this ∷ [])
+            → Works (batch_steps id cause f) (Ok x) b c
+            → SoFar causes schema size analyzer ids batches (drop (at + 1) ids) causes_then left_then a c
+        one_more f stand works = record {
+          files = so_far.files ++ f ∷ [];
+          steps = so_far.steps ++ batch_steps id cause f;
+          works = then_does so_far.works (answers works);
+          many = omega (arith, so_far.many, left_is, length-append so_far.files (f ∷ []));
+          are = λ next.
+              ap (batches_steps ids causes) (append_assoc so_far.files (f ∷ []) next)
+              ∙ are_more f next
+              ∙ sym (append_assoc so_far.steps (batch_steps id cause f) (batches_steps (drop (at + 1) ids) causes_then next));
+          stand = λ next few h.
+              subst (λ fs. AllStandFor schema size analyzer fs batches) (sym (append_assoc so_far.files (f ∷ []) next))
+              (stand_more f next stand few h);
+        }
+
+        by : (fs : List SegmentFiles) → length fs ≡ 1 → AllStandFor schema size analyzer fs (this ∷ [])
+            → Works (batches_steps (id ∷ []) (cause ∷ []) fs) (Ok x) b c
+            → SoFar causes schema size analyzer ids batches (drop (at + 1) ids) causes_then left_then a c
+        by [] many stand works = absurd (omega (arith, many))
+        by (f ∷ []) many stand works = let done : Result T TantivyError = Ok x in one_more f stand (one_works f done b c works)
+        by (f ∷ g ∷ fs) many stand works = absurd stand.1
 
     -- or not, which ends all
-    pub batch_ends : {S T : Type 0} (e : TantivyError) → MakesBatch {T = S} cause schema size analyzer id this (Err e) b c
+    pub batch_ends : {S T : Type 0} (e : TantivyError) → Makes {T = S} (Err e) b c
         → MakesBatches {T = T} causes schema size analyzer ids batches (Err e) a c
-    batch_ends {T = T} e here =
-        let others = map (λ _. no_files) (drop (at + 1) ids) in
-        record {
-          files = so_far.files ++ here.files ∷ others;
-          many =
-              omega (arith, so_far.many, left_is, length-append so_far.files (here.files ∷ others), length-map (drop (at + 1) ids) (λ (_ : ℕ). no_files));
-          stand = tt;
+    batch_ends {S = S} {T = T} e here = by here.files here.stand here.works
+      where
+        by : (fs : List SegmentFiles) → AllStandFor schema size analyzer fs (this ∷ [])
+            → Works {T = S} (batches_steps (id ∷ []) (cause ∷ []) fs) (Err e) b c
+            → MakesBatches {T = T} causes schema size analyzer ids batches (Err e) a c
+        by [] stand works = record {
+          files = so_far.files ++ [];
+          stand = so_far.stand [] (omega arith) tt;
+          whole = tt;
           works =
-              subst (λ steps. Works {T = T} steps (Err e) a c) (sym (so_far.are (here.files ∷ others) ∙ ap (λ steps. so_far.steps ++ steps) (steps_here here.files others)))
-              (then_does so_far.works (stops (batches_steps (drop (at + 1) ids) causes_then others) here.works));
+              subst (λ steps. Works {T = T} steps (Err e) a c) (sym (so_far.are [] ∙ ap (λ steps. so_far.steps ++ steps) test_here))
+              (then_does so_far.works (stops [] works));
         }
+        by (f ∷ []) stand works =
+            let failed : Result S TantivyError = Err e in
+            record {
+              files = so_far.files ++ f ∷ [];
+              stand = stand_more f [] stand (omega arith) tt;
+              whole = tt;
+              works =
+                  subst (λ steps. Works {T = T} steps (Err e) a c) (sym (are_more f []))
+                  (then_does so_far.works
+                  (stops (batches_steps (drop (at + 1) ids) causes_then []) (one_works f failed b c works)));
+            }
+        by (f ∷ g ∷ fs) stand works = absurd stand.1
 
 -- ---- all of them
 

@@ -44,11 +44,11 @@ batch_causes start schema analyzer cuts operations =
 abbrev pub batch_steps : ℕ → Option TantivyError → SegmentFiles → List Step
 batch_steps id cause files = passes cause ∷ write_steps id files
 
--- and so each, one after another
+-- and so each that has files, one after another; the next is tested, and no more
 abbrev pub batches_steps : List ℕ → List (Option TantivyError) → List SegmentFiles → List Step
 batches_steps [] causes files = []
 batches_steps (id ∷ ids) [] files = []
-batches_steps (id ∷ ids) (cause ∷ causes) [] = []
+batches_steps (id ∷ ids) (cause ∷ causes) [] = passes cause ∷ []
 batches_steps (id ∷ ids) (cause ∷ causes) (f ∷ files) = batch_steps id cause f ++ batches_steps ids causes files
 
 -- six files stand for documents, tell how often their terms occur, and have them in blocks of a size
@@ -59,23 +59,6 @@ pub record StandAndTell (schema : Schema) (block_size : ℕ) (analyzer : Analyze
   pub totals : TellTotals schema (documents_total schema analyzer documents) files.postings
   pub blocks : HasBlocks schema block_size documents files.store
 
--- the segment of a batch is written: six files that stand for its documents
-pub record MakesBatch {T : Type 0} (cause : Option TantivyError) (schema : Schema)
-    (block_size : ℕ) (analyzer : Analyzer)
-    (id : ℕ) (batch : Batch) (result : Result T TantivyError) (before after : DirectoryState) : Type 0 where
-  pub files : SegmentFiles
-  pub stand : OnOk result (StandAndTell schema block_size analyzer batch.documents files)
-  pub works : Works (batch_steps id cause files) result before after
-
--- and its segment is answered, while the deletes that wait are passed by; its first operation has the place `first`
-pub record WritesBatch (cause : Option TantivyError) (schema : Schema) (block_size : ℕ) (analyzer : Analyzer)
-    (id first : ℕ) (batch : Batch) (result : Result WrittenSegment TantivyError)
-    (old new : Queue TermTarget) (cursor : ℕ)
-    (before after : DirectoryState) : Type 0 where
-  pub does : MakesBatch cause schema block_size analyzer id batch result before after
-  pub segment : IfOk result (λ s. s ≡ segment_of id batch)
-  pub earlier : PassesEarlier first old new cursor
-
 -- each of these files stand for the documents of a batch, tell their totals, and have them in blocks of a size
 abbrev pub AllStandFor : Schema → ℕ → Analyzer → List SegmentFiles → List Batch → Type 0
 AllStandFor schema block_size analyzer [] batches = Unit {0}
@@ -83,12 +66,22 @@ AllStandFor schema block_size analyzer (f ∷ files) [] = ⊥
 AllStandFor schema block_size analyzer (f ∷ files) (batch ∷ batches) =
     StandAndTell schema block_size analyzer batch.documents f × AllStandFor schema block_size analyzer files batches
 
--- the segments of batches are written, each under its id: six files for each
+-- the segments of batches are written, each under its id: six files that stand for its documents, whatever the answer;
+-- up to the first that isn't
 pub record MakesBatches {T : Type 0} (causes : List (Option TantivyError)) (schema : Schema) (block_size : ℕ)
     (analyzer : Analyzer) (ids : List ℕ) (batches : List Batch) (result : Result T TantivyError)
     (before after : DirectoryState)
     : Type 0 where
   pub files : List SegmentFiles
-  pub many : length files ≡ length ids
-  pub stand : OnOk result (AllStandFor schema block_size analyzer files batches)
+  pub stand : AllStandFor schema block_size analyzer files batches
+  pub whole : OnOk result (length files ≡ length ids)
   pub works : Works (batches_steps ids causes files) result before after
+
+-- that of one batch is, and answered, while the deletes that wait are passed by; its first operation has the place `first`
+pub record WritesBatch (cause : Option TantivyError) (schema : Schema) (block_size : ℕ) (analyzer : Analyzer)
+    (id first : ℕ) (batch : Batch) (result : Result WrittenSegment TantivyError)
+    (old new : Queue TermTarget) (cursor : ℕ)
+    (before after : DirectoryState) : Type 0 where
+  pub does : MakesBatches (cause ∷ []) schema block_size analyzer (id ∷ []) (batch ∷ []) result before after
+  pub segment : IfOk result (λ s. s ≡ segment_of id batch)
+  pub earlier : PassesEarlier first old new cursor

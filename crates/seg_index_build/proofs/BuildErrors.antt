@@ -23,13 +23,13 @@ use Rattle.seg_check.specs.AdmittedInputs.{Fits}
 use Rattle.seg_model.specs.Refusals.{IfRefusal, IsRefusal, batches_error, build_refusal}
 use Rattle.seg_segment.proofs.Exports.{rose_before, failing, same_error}
 use Rattle.seg_check.proofs.Exports.{first_is_refusal}
-use Rattle.seg_index_build.specs.BuildOutcomes.{AreEmpty, IsWhyUntold}
+use Rattle.seg_index_build.specs.BuildOutcomes.{AreEmpty, CanBeBuilt, IsBuildError, IsWhyUntold}
 use Rattle.seg_index_build.specs.DirectoryCalls.{BuildsIndexes, merge_of}
 use Rattle.seg_index_build.specs.IndexFiles.{work_ids}
 use Rattle.seg_index_build.specs.MergedSegments.{AreMerged, MergeInput, first_schema, joined, live_asked}
 use Rattle.seg_index_build.specs.TwoDirectories.{Directories, stops, goes_on}
 use Rattle.seg_index_build.proofs.WritingExits.{Exits, Filled, exits, in_listing, in_output_listing, in_beginning, in_filling, in_merging}
-use Rattle.seg_index_build.proofs.FilledIndex.{filled_fresh, filled_refused, filled_so}
+use Rattle.seg_index_build.proofs.FilledIndex.{filled_counts, filled_fresh, filled_refused, filled_so}
 use Rattle.seg_index_build.proofs.ToldDirectories.{tells-still}
 use Rattle.seg_index_build.proofs.MergeErrors.{argument_refuses, filling_so, merge_fresh, merge_refused, merge_undamaged, too_many_told}
 use Rattle.seg_index_build.proofs.MergeContents.{opened_held}
@@ -42,19 +42,6 @@ use Rattle.seg_index_build.proofs.FilledWorkIndex.{are_merged, work_schema}
 use Rattle.seg_index_build.proofs.WriteErrors.{IsWriteError, calls_so, so_before, write_unrefused, write_undamaged}
 
 -- ---- kinds of errors
-
--- a failed call of a directory was counted
-abbrev pub RoseIn : Directories → Directories → Type 0
-RoseIn a b = Rose a.work.faults b.work.faults ⊎ Rose a.output.faults b.output.faults
-
--- an error of the building of an index
-abbrev pub IsBuildError : TantivyError → Directories → Directories → Type 0
-IsBuildError OpenReadError a b = RoseIn a b
-IsBuildError OpenWriteError a b = RoseIn a b
-IsBuildError IoError a b = RoseIn a b
-IsBuildError SystemError a b = ⊥
-IsBuildError FieldNotFound a b = ⊥
-IsBuildError _ a b = Unit {0}
 
 of_work : (e : TantivyError) (a b : Directories) → IsWriteError e a.work.faults b.work.faults → IsBuildError e a b
 of_work OpenReadError a b so = inl so
@@ -80,7 +67,7 @@ of_output IndexAlreadyExists a b so = tt
 of_output (DataCorruption name) a b so = tt
 of_output OutOfMemory a b so = tt
 
-of_refusal : (e : TantivyError) (a b : Directories) → IsRefusal e → IsBuildError e a b
+pub of_refusal : (e : TantivyError) (a b : Directories) → IsRefusal e → IsBuildError e a b
 of_refusal OpenReadError a b refusal = absurd refusal
 of_refusal OpenWriteError a b refusal = absurd refusal
 of_refusal IoError a b refusal = absurd refusal
@@ -105,8 +92,24 @@ of_reading IndexAlreadyExists a b so rose = tt
 of_reading (DataCorruption name) a b so rose = tt
 of_reading OutOfMemory a b so rose = tt
 
-of_memory : (e : TantivyError) (a b : Directories) → e ≡ OutOfMemory → IsBuildError e a b
+pub of_memory : (e : TantivyError) (a b : Directories) → e ≡ OutOfMemory → IsBuildError e a b
 of_memory e a b is = subst (λ (x : TantivyError). IsBuildError x a b) (sym is) tt
+
+-- of an input that can be built it is out of memory alone
+pub complete_of : (known : Known) (analyzer : Analyzer) (input : Input) (e : TantivyError) (a b : Directories)
+    → IsBuildError e a b → IfRefusal (λ x. build_refusal known analyzer input ≡ Some x) e → e ≢ IndexAlreadyExists
+    → IsNoDamage e → CanBeBuilt known analyzer input a b → e ≡ OutOfMemory
+complete_of known analyzer input (SchemaError cause) a b so refused fresh whole can = absurd (cc (sym can.unrefused ∙ refused))
+complete_of known analyzer input (InvalidArgument cause) a b so refused fresh whole can =
+    absurd (cc (sym can.unrefused ∙ refused))
+complete_of known analyzer input IndexAlreadyExists a b so refused fresh whole can = absurd (fresh refl)
+complete_of known analyzer input OpenReadError a b so refused fresh whole can = absurd (can.sound so)
+complete_of known analyzer input OpenWriteError a b so refused fresh whole can = absurd (can.sound so)
+complete_of known analyzer input IoError a b so refused fresh whole can = absurd (can.sound so)
+complete_of known analyzer input (DataCorruption name) a b so refused fresh whole can = absurd whole
+complete_of known analyzer input SystemError a b so refused fresh whole can = absurd so
+complete_of known analyzer input FieldNotFound a b so refused fresh whole can = absurd so
+complete_of known analyzer input OutOfMemory a b so refused fresh whole can = refl
 
 module _ (m : MergeInput) (e : TantivyError) (a n b : Directories) (later : a.work.faults ≤ n.work.faults)
     (output_later : a.output.faults ≤ n.output.faults) where
@@ -135,7 +138,7 @@ module _ (m : MergeInput) (e : TantivyError) (a n b : Directories) (later : a.wo
 
 module _ (analyzer : Analyzer) (input : Input) where
   -- of each exit
-  error_of_exit : (e : TantivyError) (a b : Directories) → Exits analyzer input e a b → IsBuildError e a b
+  pub error_of_exit : (e : TantivyError) (a b : Directories) → Exits analyzer input e a b → IsBuildError e a b
   error_of_exit e a b (in_listing h) = of_work e a b (calls_so {T = Unit {0}} e (tt, tt) h)
   error_of_exit e a b (in_output_listing h) = of_output e a b (calls_so {T = Unit {0}} e (tt, tt) h)
   error_of_exit e a b (in_beginning w lists h) =
@@ -150,7 +153,9 @@ module _ (analyzer : Analyzer) (input : Input) where
       error_of_merge (merge_of analyzer input) e a n b (later_of filled) (all_went filled.begun.lists_output).later h
     where
       later_of : Filled analyzer input a n.work n.output → a.work.faults ≤ n.work.faults
-      later_of f = omega (arith, begun_later analyzer input a f.begun_at n.output f.begun, (all_went f.fills.works).later)
+      later_of f =
+          omega (arith, begun_later analyzer input a f.begun_at n.output f.begun,
+          filled_counts input.settings input.schema analyzer (work_ids input.ids) input.cuts input.operations tt f.begun_at n.work f.fills)
 
   module _ (fits : Fits analyzer input) (settings : settings_fit input.settings ≡ true) where
     abbrev merged : AreMerged (merge_of analyzer input)

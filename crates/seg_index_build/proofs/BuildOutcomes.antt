@@ -1,18 +1,18 @@
 -- What the building of an index comes to, from what its steps say.
-use Rattle.std.proofs.Common.{◌≡◌, ◌≢◌, ◌∙◌, Option, None, Some, Err, refl, sym, ap, subst, inl, inr}
+use Rattle.std.proofs.Common.{◌≡◌, ◌≢◌, ◌∙◌, Option, None, Some, refl, sym, subst, inl, inr}
 use Rattle.std.specs.Prelude.{◌⊎◌, IfSome}
-use Rattle.seg_segment.proofs.Exports.{failing}
 use Rattle.seg_values.specs.declared.error.TantivyError.{TantivyError}
 use Rattle.seg_values.specs.declared.error.TantivyError.TheVariants.{IndexAlreadyExists, OutOfMemory}
 use Rattle.seg_model.specs.Fields.{Analyzer}
 use Rattle.seg_model.specs.Input.{Input}
 use Rattle.seg_model.specs.ValidInputs.{Known, input_refusal}
 use Rattle.seg_open.specs.OpeningSteps.{IsNoDamage}
-use Rattle.seg_model.specs.Refusals.{IsRefusal, build_refusal}
+use Rattle.seg_model.specs.Refusals.{IsRefusal, batches_error, build_refusal}
 use Rattle.seg_check.proofs.Exports.{first_is_refusal}
 use Rattle.seg_batches.proofs.Exports.{refusal_weaker}
-use Rattle.seg_index_build.specs.BuildOutcomes.{IsWhyUntold, StopsBuilding}
+use Rattle.seg_index_build.specs.BuildOutcomes.{IsBuildError, IsWhyUntold, StopsBuilding}
 use Rattle.seg_index_build.specs.TwoDirectories.{Directories}
+use Rattle.seg_index_build.proofs.BuildErrors.{complete_of, of_memory, of_refusal}
 use Rattle.seg_index_build.proofs.BuildOnDisk.{not_begun_leaves}
 use Rattle.seg_index_build.proofs.BuildRefusals.{caused_refusal, refusal_undamaged}
 
@@ -38,6 +38,14 @@ refusal_or_memory : (known : Known) (analyzer : Analyzer) (input : Input) (e : T
 refusal_or_memory known analyzer input e (inl is) = inl (first_is_refusal known analyzer input e is)
 refusal_or_memory known analyzer input e (inr starved) = inr starved
 
+begun_error : (e : TantivyError) (state : Directories) → IsRefusal e ⊎ (e ≡ OutOfMemory) → IsBuildError e state state
+begun_error e state (inl refusal) = of_refusal e state state refusal
+begun_error e state (inr starved) = of_memory e state state starved
+
+unless_none : (o : Option TantivyError) (P : Type 0) → P → IfSome o (λ _. P)
+unless_none None P p = tt
+unless_none (Some e) P p = p
+
 pub not_begun : (known : Known) (analyzer : Analyzer) (input : Input) (e : TantivyError) (state : Directories)
     → (input_refusal known analyzer input ≡ Some e) ⊎ (e ≡ OutOfMemory) → StopsBuilding known analyzer input e state state
 not_begun known analyzer input e state cause =
@@ -51,21 +59,10 @@ not_begun known analyzer input e state cause =
           (caused_refusal known analyzer input e cause);
       fresh = λ empty. not_there e kind;
       whole = λ told. undamaged e kind;
+      batch_refused = unless_none (batches_error input.schema analyzer 0 input.cuts input.operations) _ refl;
+      errors = begun_error e state kind;
+      complete = λ can.
+          complete_of known analyzer input e state state (begun_error e state kind)
+          (caused_refusal known analyzer input e cause) (not_there e kind) (undamaged e kind) can;
       any_moment = not_begun_leaves analyzer input state;
     }
-
--- ---- what is told of the answer
-
-module _ (T : Type 0) (e : TantivyError) (a b : Directories) where
-  pub first_answer : (o : Option TantivyError) → IfSome o (λ x. ((e ≡ x) ⊎ (e ≡ OutOfMemory)) × (b ≡ a))
-      → IfSome o (λ x. (failing T e ≡ Err x) ⊎ (failing T e ≡ Err OutOfMemory))
-  first_answer None first = tt
-  first_answer (Some x) (inl is, same) = inl (ap (failing T) is)
-  first_answer (Some x) (inr is, same) = inr (ap (failing T) is)
-
--- nothing is touched
-pub first_same : (e : TantivyError) (a b : Directories) (o : Option TantivyError)
-    → IfSome o (λ x. ((e ≡ x) ⊎ (e ≡ OutOfMemory)) × (b ≡ a))
-    → IfSome o (λ _. (b.work ≡ a.work) × (b.output ≡ a.output))
-first_same e a b None first = tt
-first_same e a b (Some x) (is, same) = (ap (λ (d : Directories). d.work) same, ap (λ (d : Directories). d.output) same)

@@ -1,5 +1,6 @@
 -- What crates above may cite: all other modules are inner.
-pub use Rattle.seg_index_build.proofs.BuildErrors.{IsBuildError, RoseIn, build_error}
+pub use Rattle.seg_index_build.specs.BuildOutcomes.{IsBuildError, RoseIn}
+pub use Rattle.seg_index_build.proofs.BuildErrors.{build_error}
 pub use Rattle.seg_index_build.proofs.BuildRefusals.{read_exists, read_unrefused, refusal_undamaged}
 pub use Rattle.seg_index_build.proofs.LastReads.{told_both}
 pub use Rattle.seg_index_build.proofs.MergeContents.{opened_held}

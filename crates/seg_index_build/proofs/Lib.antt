@@ -5,6 +5,7 @@ mod WritingExits
 mod FillSteps
 mod FilledIndex
 mod FinishSteps
+mod BuildEnds
 mod BuildTurns
 mod ToldDirectories
 mod JoinedIds
@@ -30,7 +31,9 @@ mod SameOptions
 mod SourceTurns
 mod PublishSteps
 mod BuildErrors
+mod KeptDirectories
 mod LastReads
+mod MissingAlive
 mod DistinctLists
 mod UniqueParts
 mod TakenParts

@@ -14,7 +14,7 @@ use Rattle.seg_common.specs.declared.name.SegmentComponent.TheVariants.{Terms, P
 use Rattle.seg_values.specs.declared.error.ArgumentCause.TheVariants as argument
 use Rattle.seg_values.specs.declared.error.TantivyError.TheVariants.{InvalidArgument}
 use Rattle.seg_bits.specs.BitSets.{set_of}
-use Rattle.seg_directory.proofs.Exports.{all_went}
+use Rattle.seg_directory.proofs.Exports.{all_went, then_does}
 use Rattle.seg_directory.specs.DirectorySteps.{Step, all_told}
 use Rattle.seg_directory.specs.declared.answer.Answer.{Answer}
 use Rattle.seg_meta.specs.IndexOfFiles.{Deletes, ListedSegment}
@@ -43,6 +43,7 @@ use Rattle.seg_index_build.specs.TwoDirectories.{Directories, goes_on, stops}
 use Rattle.seg_index_build.specs.WorkIndexSteps.{finish_steps, listing_meta}
 use Rattle.seg_index_build.specs.IndexWriteSteps.{begin_steps}
 use Rattle.seg_index_build.proofs.WritingExits.{Wrote, wrote}
+use Rattle.seg_index_build.proofs.FilledIndex.{FilledParts, filled_parts}
 use Rattle.seg_index_build.proofs.FillSteps.{ids_are}
 use Rattle.seg_index_build.proofs.MergeContents.{merged_holds}
 use Rattle.seg_index_build.proofs.MergeLists.{all_asked}
@@ -233,14 +234,19 @@ module _ (analyzer : Analyzer) (input : Input) (fits : Fits analyzer input) (a b
   abbrev found_of : List Found
   found_of = w.merged.was.opens.found
 
+  abbrev filled : FilledParts input.settings input.schema analyzer (work_ids input.ids) input.cuts input.operations w.filled.begun_at w.between.work
+  filled =
+      filled_parts input.settings input.schema analyzer (work_ids input.ids) input.cuts input.operations tt
+      w.filled.begun_at w.between.work w.filled.fills
+
   abbrev finishing : List Step
   finishing =
-      finish_steps (listing_meta input.settings input.schema stamp_of written) stamp_of w.filled.fills.alive written
+      finish_steps (listing_meta input.settings input.schema stamp_of written) stamp_of filled.finishes.alive written
 
   abbrev filling : List Step
   filling =
       batches_steps (work_ids input.ids) (batch_causes None input.schema analyzer input.cuts input.operations)
-      w.filled.fills.files ++ finishing
+      filled.makes.files ++ finishing
 
   abbrev writing_of : List Answer
   writing_of = all_told lists_none ++ (all_told (begin_steps input.settings input.schema) ++ all_told filling)
@@ -252,7 +258,7 @@ module _ (analyzer : Analyzer) (input : Input) (fits : Fits analyzer input) (a b
   seen_as =
       all_seen a.work.seen w.filled.begun.listed_at.seen w.filled.begun_at.seen w.between.work.seen b.work.seen
       (all_told lists_none) (all_told (begin_steps input.settings input.schema)) (all_told filling) reading_of
-      (all_went w.filled.begun.lists).seen (all_went w.filled.begun.begins).seen (all_went w.filled.fills.works).seen
+      (all_went w.filled.begun.lists).seen (all_went w.filled.begun.begins).seen (all_went (then_does filled.makes.works filled.finishes.works)).seen
       (all_went w.merged.was.opens.works).seen
 
   gained_is : gained a.work.seen b.work.seen ≡ writing_of ++ reading_of
@@ -270,8 +276,8 @@ module _ (analyzer : Analyzer) (input : Input) (fits : Fits analyzer input) (a b
       (all_both ReadsNothing (all_told (begin_steps input.settings input.schema)) (all_told filling)
       (begin_reads input.settings input.schema)
       (batches_read (work_ids input.ids) (batch_causes None input.schema analyzer input.cuts input.operations)
-      w.filled.fills.files finishing
-      (finish_reads stamp_of (listing_meta input.settings input.schema stamp_of written) w.filled.fills.alive written w.filled.fills.whole)))
+      filled.makes.files finishing
+      (finish_reads stamp_of (listing_meta input.settings input.schema stamp_of written) filled.finishes.alive written filled.finishes.whole)))
 
   unwritten_of : (id : ℕ) → was_written (Alive id stamp_of) reading_of ≡ false
   unwritten_of id = never_written (Alive id stamp_of) live found_of
@@ -280,8 +286,8 @@ module _ (analyzer : Analyzer) (input : Input) (fits : Fits analyzer input) (a b
   written_at id =
       written_front (Alive id stamp_of) writing_of reading_of (unwritten_of id)
       ∙ batches_write id stamp_of (work_ids input.ids) (batch_causes None input.schema analyzer input.cuts input.operations)
-      w.filled.fills.files finishing
-      ∙ finish_writes stamp_of (listing_meta input.settings input.schema stamp_of written) id w.filled.fills.alive written w.filled.fills.whole
+      filled.makes.files finishing
+      ∙ finish_writes stamp_of (listing_meta input.settings input.schema stamp_of written) id filled.finishes.alive written filled.finishes.whole
 
   apart_written : Apart (λ (s : WrittenSegment). s.id) written
   apart_written =
@@ -383,7 +389,7 @@ module _ (analyzer : Analyzer) (input : Input) (fits : Fits analyzer input) (a b
 
 -- ---- from the calls alone
 
-fits_of : (known : Known) (analyzer : Analyzer) (input : Input) → input_refusal known analyzer input ≡ None
+pub fits_of : (known : Known) (analyzer : Analyzer) (input : Input) → input_refusal known analyzer input ≡ None
     → Fits analyzer input
 fits_of known analyzer input none =
     let shaped =

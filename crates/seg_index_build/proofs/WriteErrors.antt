@@ -157,7 +157,7 @@ pub batches_write : (ids : List ℕ) (causes : List (Option TantivyError)) (file
     → AllByRecursion TellsRefusal causes → OnlyWrites IsRefusal (batches_steps ids causes files)
 batches_write [] causes files tell = tt
 batches_write (id ∷ ids) [] files tell = tt
-batches_write (id ∷ ids) (cause ∷ causes) [] tell = tt
+batches_write (id ∷ ids) (cause ∷ causes) [] tell = (tell.0, tt)
 batches_write (id ∷ ids) (cause ∷ causes) (f ∷ files) tell =
     (tell.0, (tt, (tt, (tt, (tt, (tt, (tt, batches_write ids causes files tell.1)))))))
 

@@ -21,7 +21,7 @@ use Rattle.seg_index_build.specs.MergeAnswers.{AllHaveHeld, LiveAreWhole}
 use Rattle.seg_index_build.specs.MergedSegments.{live_asked}
 use Rattle.seg_index_build.specs.TwoDirectories.{Directories}
 use Rattle.seg_index_build.proofs.WritingExits.{Begun, Filled}
-use Rattle.seg_index_build.proofs.FilledIndex.{filled_alive, filled_fit, filled_stand, filled_taken, filled_tells, filled_totals}
+use Rattle.seg_index_build.proofs.FilledIndex.{filled_alive, filled_counts, filled_fit, filled_stand, filled_taken, filled_tells, filled_totals}
 use Rattle.seg_index_build.proofs.FillSteps.{length-batches}
 use Rattle.seg_index_build.proofs.ToldDirectories.{tells-still}
 use Rattle.seg_index_build.proofs.SegmentIds.{work_distinct, work_many}
@@ -74,7 +74,9 @@ module _ (analyzer : Analyzer) (input : Input) where
 
       -- no count of faults fell
       pub filled_later : a.work.faults ≤ w.faults
-      filled_later = omega (arith, begun_later a filled.begun_at o filled.begun, (all_went filled.fills.works).later)
+      filled_later =
+          omega (arith, begun_later a filled.begun_at o filled.begun,
+          filled_counts input.settings input.schema analyzer (work_ids input.ids) input.cuts input.operations tt filled.begun_at w filled.fills)
 
       pub filled_output_later : a.output.faults ≤ o.faults
       filled_output_later = (all_went filled.begun.lists_output).later
@@ -89,7 +91,7 @@ module _ (analyzer : Analyzer) (input : Input) where
         pub told_filled : IsTrue w.tells
         told_filled =
             tells-still _ _
-            (filled_tells input.settings input.schema analyzer (work_ids input.ids) input.cuts input.operations many tt
+            (filled_tells input.settings input.schema analyzer (work_ids input.ids) input.cuts input.operations tt
             filled.begun_at w filled.fills)
             told_begun
 

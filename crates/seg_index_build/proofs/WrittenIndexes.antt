@@ -11,17 +11,18 @@ use Rattle.seg_meta.specs.IndexOfFiles as index
 use Rattle.seg_model.specs.Input.{Input, input_batches, input_survivors}
 use Rattle.seg_model.specs.Operations.{Batch}
 use Rattle.seg_model.specs.Laws.{AreReadingsOf, JoiningIsInvisible}
-use Rattle.seg_model.specs.ValidInputs.{FitsSegment, Known, input_refusal}
+use Rattle.seg_model.specs.ValidInputs.{FitsSegment, Known, are_distinct, input_refusal}
 use Rattle.seg_model.proofs.Exports.{was_read}
 use Rattle.seg_segment.specs.FileContents.{Holds}
 use Rattle.seg_segment.specs.Laws.{HoldsOneContents}
 use Rattle.seg_batches.specs.BatchTotals.{HasTotals}
+use Rattle.seg_batches.specs.WrittenSegments.{WrittenSegment}
 use Rattle.seg_open.specs.OpenSegment.{kept_count, part_of}
 use Rattle.seg_merger.specs.JoinedTotals.{joined_total}
 use Rattle.seg_check.specs.AdmittedInputs.{Fits}
 use Rattle.seg_index_build.specs.BuildOutcomes.{Builds, IsBuilt}
 use Rattle.seg_index_build.specs.DirectoryCalls.{WritesIndexes, merge_of}
-use Rattle.seg_index_build.specs.IndexFiles.{IsOutputIndexOf, IsWorkIndexOf, merged_meta, output_id, output_meta, work_ids}
+use Rattle.seg_index_build.specs.IndexFiles.{IsOutputIndexOf, IsWorkIndexOf, merged_meta, output_id, output_meta, work_ids, work_segments}
 use Rattle.seg_index_build.specs.IndexTotals.{HasOutputTotals, HasWorkTotals, merged_batches, with_totals}
 use Rattle.seg_index_build.specs.MergeAnswers.{AllHaveHeld, IsMergeOf}
 use Rattle.seg_index_build.specs.MergedSegments.{joined, live_asked}
@@ -29,10 +30,14 @@ use Rattle.seg_index_build.specs.TwoDirectories.{Directories}
 use Rattle.seg_index_build.proofs.BuildOnDisk.{build_leaves, build_rests}
 use Rattle.seg_index_build.proofs.WritingExits.{Wrote, wrote}
 use Rattle.seg_index_build.proofs.FilledIndex.{filled_index}
-use Rattle.seg_index_build.proofs.FillSteps.{length-batches}
+use Rattle.seg_index_build.proofs.FillSteps.{ids_are, length-batches}
+use Rattle.seg_index_build.proofs.DistinctLists.{all_apart}
+use Rattle.seg_index_build.proofs.KeptDirectories.{work_kept}
+use Rattle.seg_index_build.proofs.MissingAlive.{none_alive}
 use Rattle.seg_index_build.proofs.MergeErrors.{few_passed}
 use Rattle.seg_index_build.proofs.MergeContents.{opened_held, opened_stays}
 use Rattle.seg_index_build.proofs.WritingPlaces.{are_readings, distinct, is_written, many, output_empty, told_begun, told_filled, work_empty, work_stands, work_tells_alive, work_totals}
+use Rattle.seg_index_build.proofs.TakenParts.{output_holds}
 use Rattle.seg_index_build.proofs.ReadTotals.{are_live, joined_told}
 use Rattle.seg_index_build.proofs.JoinedSurvivors.{kept_survivors, survivors_joined}
 use Rattle.seg_index_build.proofs.WorkReadings.{batches_counted, live_batches}
@@ -168,6 +173,14 @@ module _ {T : Type 0} (x : T) (known : Known) (analyzer : Analyzer) (input : Inp
       index = work_index told;
       meta_is = meta_is told one;
       totals = totals told;
+      unmarked =
+          none_alive (length input.operations) (work_ids input.ids) (work_segments analyzer input) a.work.files b.work.files
+          (all_apart (λ (s : WrittenSegment). s.id) (work_segments analyzer input)
+          (ap are_distinct
+          (ids_are input.schema analyzer (work_ids input.ids) input.cuts input.operations (many analyzer input fits))
+          ∙ distinct analyzer input fits))
+          (work_empty analyzer input a w.filled.begun_at output_at w.filled.begun told)
+          (work_kept analyzer input (Ok x) a b writes);
       output_index = output_index told one law;
       output_totals = output_totals told one;
     };
@@ -175,6 +188,7 @@ module _ {T : Type 0} (x : T) (known : Known) (analyzer : Analyzer) (input : Inp
       was_empty = output_empty analyzer input a w.filled.begun_at output_at w.filled.begun told;
       index_of = built.merged.index_of told;
     };
+    reads = λ told. output_holds analyzer input fits a b w told;
     any_moment = λ told clean. build_leaves analyzer input fits reads id_fits one law a told clean (Ok x) b writes;
     at_rest = λ told clean. build_rests analyzer input fits reads id_fits one law a told clean x b writes;
   }

@@ -50,6 +50,14 @@ merge_listed input segments = record {
 abbrev pub merge_of : Analyzer → Input → MergeInput
 merge_of analyzer input = merge_listed input (work_listed analyzer input)
 
+-- an input is tested, and its work index is begun and filled
+abbrev pub WritesWork : {T : Type 0} → Known → Analyzer → Input
+    → Result T TantivyError → Directories → Directories → Type 0
+WritesWork known analyzer input result before after =
+    Then {X = Unit {0}} (Passes (input_refusal known analyzer input)) (λ _.
+    Then {X = Unit {0}} (BeginsIndexes input.settings input.schema) (λ _.
+    InWork (FillsWork analyzer input))) result before after
+
 -- both indexes are written: the work index is begun and filled; and its segments are merged into the other
 abbrev pub WritesIndexes : {T : Type 0} → Analyzer → Input
     → Result T TantivyError → Directories → Directories → Type 0

@@ -10,6 +10,7 @@ pub mod MergeAnswers
 pub mod MergePlans
 pub mod MergedIndices
 pub mod MergedSegments
+pub mod OtherFiles
 pub mod Sources
 pub mod TakenBatches
 pub mod TwoDirectories

@@ -1,5 +1,5 @@
 -- What the filling of a work index does to a directory.
-use Rattle.std.specs.Prelude.{ℕ, ◌≡◌, List, [], ◌∷◌, ◌++◌, length, None, Result, OnOk}
+use Rattle.std.specs.Prelude.{ℕ, ◌≡◌, List, [], ◌∷◌, ◌++◌, length, None, Result, Ok, Err, OnOk}
 use Rattle.seg_values.specs.declared.error.TantivyError.{TantivyError}
 use Rattle.seg_directory.specs.DirectoryStates.{DirectoryState}
 use Rattle.seg_directory.specs.DirectorySteps.{Step, Works}
@@ -7,10 +7,9 @@ use Rattle.seg_model.specs.Fields.{Schema, Analyzer}
 use Rattle.seg_meta.specs.IndexOfFiles.{Meta}
 use Rattle.seg_model.specs.Input.{Settings}
 use Rattle.seg_model.specs.Operations.{Operation, batches}
-use Rattle.seg_segment.specs.declared.segment_files.SegmentFiles.{SegmentFiles}
 use Rattle.seg_batches.specs.AliveFiles.{AllTellMarks, alive_step}
 use Rattle.seg_batches.specs.WrittenSegments.{WrittenSegment, all_listed, deletes_of}
-use Rattle.seg_batches.specs.BatchWriteSteps.{AllStandFor, batch_causes, batches_steps}
+use Rattle.seg_batches.specs.BatchWriteSteps.{MakesBatches, batch_causes}
 use Rattle.seg_index_build.specs.IndexFiles.{segments_meta, written_of}
 use Rattle.seg_index_build.specs.IndexWriteSteps.{publish_steps}
 
@@ -37,20 +36,23 @@ pub record FinishesIndex {T : Type 0} (settings : Settings) (schema : Schema) (s
   pub works : Works (finish_steps (listing_meta settings schema stamp segments) stamp alive segments)
       result before after
 
--- an index that was begun is filled: the segment of each batch is written, six files that stand for its documents, with
--- a store in blocks of the size that the settings say; and then it is finished
-pub record FillsIndex {T : Type 0} (settings : Settings) (schema : Schema) (analyzer : Analyzer) (ids cuts : List ℕ)
+-- the segment of each batch is written: six files that stand for its documents, with a store in blocks of the size that
+-- the settings say
+abbrev pub WritesSegments : {T : Type 0} → Settings → Schema → Analyzer → List ℕ → List ℕ → List Operation
+    → Result T TantivyError → DirectoryState → DirectoryState → Type 0
+WritesSegments settings schema analyzer ids cuts operations result before after =
+    MakesBatches (batch_causes None schema analyzer cuts operations) schema settings.block_size analyzer ids
+    (batches schema analyzer cuts operations) result before after
+
+-- an index that was begun is filled: the segments of all batches are written, and then it is finished; the first error
+-- ends it
+pub data FillsIndex {T : Type 0} (settings : Settings) (schema : Schema) (analyzer : Analyzer) (ids cuts : List ℕ)
     (operations : List Operation) (result : Result T TantivyError) (before after : DirectoryState) : Type 0 where
-  pub files : List SegmentFiles
-  pub many : length files ≡ length ids
-  pub stand : OnOk result
-      (AllStandFor schema settings.block_size analyzer files (batches schema analyzer cuts operations))
-  pub alive : List (List ℕ)
-  pub tell : AllTellMarks (length operations) alive (written_of schema analyzer ids cuts operations)
-  pub whole : OnOk result (length alive ≡ length (written_of schema analyzer ids cuts operations))
-  pub works : Works
-      (batches_steps ids (batch_causes None schema analyzer cuts operations) files
-      ++ finish_steps
-      (listing_meta settings schema (length operations) (written_of schema analyzer ids cuts operations))
-      (length operations) alive (written_of schema analyzer ids cuts operations))
-      result before after
+  in_batches : (e : TantivyError) → result ≡ Err e
+      → WritesSegments {T = Unit {0}} settings schema analyzer ids cuts operations (Err e) before after
+      → FillsIndex settings schema analyzer ids cuts operations result before after
+  after_batches : (between : DirectoryState)
+      → WritesSegments {T = Unit {0}} settings schema analyzer ids cuts operations (Ok tt) before between
+      → FinishesIndex settings schema (length operations) (written_of schema analyzer ids cuts operations) result
+      between after
+      → FillsIndex settings schema analyzer ids cuts operations result before after

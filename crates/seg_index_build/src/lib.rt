@@ -28,9 +28,9 @@ mod payload;
 mod filtered_merge;
 
 // An index, built of operations.
-mod held_input;
 mod index_build;
 mod indexes;
+mod merge_plan;
 mod work_index;
 
 // Indices, merged into one.

@@ -1,40 +1,48 @@
 //! The work index: the segments of the batches, their alive files, and the meta.
-ghost use Rattle.std.specs.Prelude.{◌≡◌, ◌<◌, ◌^◌, None, true, map, length, IfOk};
+ghost use Rattle.std.specs.Prelude.{◌≡◌, ◌<◌, ◌^◌, true, map, length, IfOk};
 ghost use Rattle.seg_directory.specs.DirectorySteps.{Works};
 ghost use Rattle.seg_meta.specs.MetaMeaning.{meta_of, settings_of};
-ghost use Rattle.seg_model.specs.ValidInputs.{are_distinct, input_refusal};
-ghost use Rattle.seg_check.specs.AdmittedInputs.{Fits};
-ghost use Rattle.seg_index_build.specs.DirectoryCalls.{FillsWork};
-ghost use Rattle.seg_index_build.specs.IndexFiles.{work_ids, work_meta};
+ghost use Rattle.seg_model.specs.ValidInputs.{are_distinct};
+ghost use Rattle.seg_index_build.specs.DirectoryCalls.{WritesWork};
+ghost use Rattle.seg_index_build.specs.IndexFiles.{work_meta};
+ghost use Rattle.seg_index_build.specs.TwoDirectories.{both};
 ghost use Rattle.seg_index_build.specs.WorkIndexSteps.{FinishesIndex, listing_meta};
 ghost use Rattle.seg_index_build.specs.IndexWriteSteps.{publish_steps};
 
 use crate::index_files::save_index;
+use crate::indexes::begin_indexes;
+use crate::merge_plan::split_ids;
 use crate::metas::work_metas;
 use seg_batches::{WrittenSegment, list_segments, write_alive_files, write_batches};
-use seg_check::BuildInputRef;
-use seg_common::SegmentId;
+use seg_check::{BuildInputRef, check_input};
 use seg_directory::Directory;
 use seg_meta::{IndexMeta, IndexSettings};
 use seg_tokens::Analyzers;
 use seg_values::{Schema, TResult, TantivyError};
 use std::alloc::Global;
 
-/// Fills an index that was begun: writes the segment of each batch, then the alive file of each of which deletes remove
-/// a document, and then the meta, whose stamp is the number of operations.
-pub(crate) fn fill_work_index<Z: Analyzers, W: Directory>(
+/// Checks an input, and writes its work index, where neither directory has a file: the segment of each batch, then the
+/// alive file of each of which deletes remove a document, and then the meta, whose stamp is the number of operations.
+pub(crate) fn write_work_index<Z: Analyzers, W: Directory, O: Directory>(
     alloc: Global,
     input: &BuildInputRef<'_>,
     analyzers: &Z,
-    ids: &[SegmentId],
     work: &mut W,
+    output: &mut O,
 ) -> TResult<IndexMeta>
-    requires admitted { input_refusal (Z.knows analyzers.now) (Z.tokens_of analyzers.now) input.now ≡ None }
-    requires fits { Fits (Z.tokens_of analyzers.now) input.now }
-    requires ids { ids.now ≡ work_ids input.now.ids }
     ensures meta { IfOk result (λ metas. meta_of metas ≡ work_meta (Z.tokens_of analyzers.now) input.now) }
-    ensures does { FillsWork (Z.tokens_of analyzers.now) input.now result (W.state work.old) (W.state work.new) }
+    ensures does { WritesWork (Z.knows analyzers.now) (Z.tokens_of analyzers.now) input.now result
+        (both (W.state work.old) (O.state output.old)) (both (W.state work.new) (O.state output.new)) }
 {
+    match check_input(alloc, analyzers, input) {
+        Ok(()) => {}
+        Err(e) => return Err(e),
+    }
+    match begin_indexes(alloc, input, work, output) {
+        Ok(()) => {}
+        Err(e) => return Err(e),
+    }
+    let (ids, _) = split_ids(input.ids);
     let segments = match write_batches(
         alloc,
         input.schema,

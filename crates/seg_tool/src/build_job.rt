@@ -2,7 +2,7 @@
 ghost use Rattle.std.specs.Prelude.{◌≡◌, IfOk};
 ghost use Rattle.seg_index_build.specs.TwoDirectories.{both};
 ghost use Rattle.seg_open.specs.Answers.{seen_as};
-ghost use Rattle.seg_tool.specs.Jobs.{BuildsBoth, BuildsScript, BuildsText};
+ghost use Rattle.seg_tool.specs.Jobs.{BuildsScript, BuildsText};
 ghost use Rattle.seg_tool.specs.Printing.{opening};
 ghost use Rattle.seg_tool.specs.Statuses.{status_of};
 
@@ -13,7 +13,6 @@ use seg_check::BuildInput;
 use seg_directory::Directory;
 use seg_generate::push_generated;
 use seg_index_build::build_index_of;
-use seg_meta::Index;
 use seg_script::{ScriptError, read_script};
 use seg_tokens::Analyzers;
 use seg_values::{TResult, TantivyError};
@@ -56,7 +55,7 @@ pub(crate) fn build_and_print<Z: Analyzers, W: Directory, O: Directory>(
         (Z.tokens_of analyzers.now) input detail (seen_as (λ t. t.items) result)
         (both (W.state work.old) (O.state output.old)) (both (W.state work.new) (O.state output.new)) }
 {
-    let _index = match build_both(alloc, analyzers, input, work, output) {
+    let _index = match build_index_of(alloc, input, analyzers, work, output) {
         Ok(index) => index,
         Err(e) => return Err(e),
     };
@@ -83,20 +82,6 @@ fn opening(alloc: Global, detail: Detail) -> Result<Vec<u8>, AllocError>
         Detail::Brief => Ok(out),
         Detail::Full => Ok(out),
     }
-}
-
-/// Writes the indexes of an input, which is released as soon as it may be.
-fn build_both<Z: Analyzers, W: Directory, O: Directory>(
-    alloc: Global,
-    analyzers: &Z,
-    input: BuildInput,
-    work: &mut W,
-    output: &mut O,
-) -> TResult<Index>
-    ensures { BuildsBoth (Z.knows analyzers.now) (Z.tokens_of analyzers.now) input result
-        (both (W.state work.old) (O.state output.old)) (both (W.state work.new) (O.state output.new)) }
-{
-    build_index_of(alloc, input, analyzers, work, output)
 }
 
 /// The status of an error of an index.

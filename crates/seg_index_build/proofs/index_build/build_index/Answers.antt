@@ -1,80 +1,68 @@
-use Rattle.std.proofs.lemmas.Option.{MatchOption-from_none}
+use Rattle.std.proofs.Common.{◌≡◌, Ok, Err, arith}
 use Rattle.seg_check.specs.Inputs.{input_of}
+use Rattle.seg_meta.specs.declared.index_meta.IndexMeta.{IndexMeta}
 use Rattle.seg_index_build.specs.TwoDirectories.{both}
-use Rattle.seg_index_build.proofs.BuildOutcomes.{first_answer, first_same}
-use Rattle.seg_index_build.proofs.TakenParts.{holds_taken}
+use Rattle.seg_index_build.proofs.BuildEnds.{is_list, merged_as, plan_merges, starves_between, stops_at_work, two_ids}
+use Rattle.seg_index_build.proofs.MetaRoundTrips.{output_fits}
 use Rattle.seg_index_build.proofs.index_build.build_index.Goals as goal
 
-pub returns-in-Ok-clause-first : goal.returns-in-Ok-clause-first
-returns-in-Ok-clause-first g c = MatchOption-from_none _ _ c.in-Ok.ensures.ends.admitted
-
-pub returns-in-Ok-clause-untouched : goal.returns-in-Ok-clause-untouched
-returns-in-Ok-clause-untouched g c = MatchOption-from_none _ _ c.in-Ok.ensures.ends.admitted
-
-pub returns-in-Ok-clause-valid : goal.returns-in-Ok-clause-valid
-returns-in-Ok-clause-valid g c = c.in-Ok.ensures.ends.valid
-
-pub returns-in-Ok-clause-index : goal.returns-in-Ok-clause-index
-returns-in-Ok-clause-index g c told = (c.in-Ok.ensures.ends.in_work told).meta_is
-
-pub returns-in-Ok-clause-meta : goal.returns-in-Ok-clause-meta
-returns-in-Ok-clause-meta g c = c.in-Ok.ensures.ends.counted
-
-pub returns-in-Ok-clause-work_index : goal.returns-in-Ok-clause-work_index
-returns-in-Ok-clause-work_index g c told = (c.in-Ok.ensures.ends.in_work told).index
-
-pub returns-in-Ok-clause-work_was_empty : goal.returns-in-Ok-clause-work_was_empty
-returns-in-Ok-clause-work_was_empty g c told = (c.in-Ok.ensures.ends.in_work told).was_empty
-
-pub returns-in-Ok-clause-output_index : goal.returns-in-Ok-clause-output_index
-returns-in-Ok-clause-output_index g c told told_output = (c.in-Ok.ensures.ends.in_work told).output_index told_output
-
-pub returns-in-Ok-clause-work_totals : goal.returns-in-Ok-clause-work_totals
-returns-in-Ok-clause-work_totals g c told = (c.in-Ok.ensures.ends.in_work told).totals
-
-pub returns-in-Ok-clause-output_totals : goal.returns-in-Ok-clause-output_totals
-returns-in-Ok-clause-output_totals g c told told_output = (c.in-Ok.ensures.ends.in_work told).output_totals told_output
-
-pub returns-in-Ok-clause-output_meta : goal.returns-in-Ok-clause-output_meta
-returns-in-Ok-clause-output_meta g c told = (c.in-Ok.ensures.ends.in_output told).index_of
-
-pub returns-in-Ok-clause-output_was_empty : goal.returns-in-Ok-clause-output_was_empty
-returns-in-Ok-clause-output_was_empty g c told = (c.in-Ok.ensures.ends.in_output told).was_empty
-
-pub returns-in-Ok-clause-reads : goal.returns-in-Ok-clause-reads
-returns-in-Ok-clause-reads g c told =
-    holds_taken c.in-Ok.index (g.Z.Analyzers.knows c.args.analyzers.now) (g.Z.Analyzers.tokens_of c.args.analyzers.now)
+pub returns-in-Err : goal.returns-in-Err
+returns-in-Err g c =
+    stops_at_work (g.Z.Analyzers.knows c.args.analyzers.now) (g.Z.Analyzers.tokens_of c.args.analyzers.now)
     (input_of c.args.schema.now c.args.settings.now c.args.operations.now c.args.cuts.now c.args.filters.now c.args.ids.now)
+    c.joining_is_invisible.ensures c.files_hold_one_contents.ensures c.schema_reads_back.ensures
+    (output_fits _ c.ids_fit.ensures) IndexMeta c.in-Err.e
     (both (g.W.Directory.state c.args.work.now) (g.O.Directory.state c.args.output.now))
-    (both (g.W.Directory.state c.build_held.new.work) (g.O.Directory.state c.build_held.new.output))
-    c.in-Ok.ensures.calls told
+    (both (g.W.Directory.state c.write_work_index.new.work) (g.O.Directory.state c.write_work_index.new.output))
+    c.in-Err.ensures.does
 
-pub returns-in-Ok-clause-calls : goal.returns-in-Ok-clause-calls
-returns-in-Ok-clause-calls g c = c.in-Ok.ensures.calls
+pub copied_plan-requires : goal.copied_plan-requires
+copied_plan-requires g c =
+    let two =
+    two_ids (g.Z.Analyzers.knows c.args.analyzers.now) (g.Z.Analyzers.tokens_of c.args.analyzers.now)
+    (input_of c.args.schema.now c.args.settings.now c.args.operations.now c.args.cuts.now c.args.filters.now c.args.ids.now)
+    c.in-Ok.metas (both (g.W.Directory.state c.args.work.now) (g.O.Directory.state c.args.output.now))
+    (both (g.W.Directory.state c.write_work_index.new.work) (g.O.Directory.state c.write_work_index.new.output))
+    c.in-Ok.ensures.does in
+    omega (arith, two)
 
-pub returns-in-Err-clause-first : goal.returns-in-Err-clause-first
-returns-in-Err-clause-first g c = first_answer _ _ _ _ _ c.in-Err.ensures.ends.first
+pub returns-in_default : goal.returns-in_default
+returns-in_default g c =
+    starves_between (g.Z.Analyzers.knows c.args.analyzers.now) (g.Z.Analyzers.tokens_of c.args.analyzers.now)
+    (input_of c.args.schema.now c.args.settings.now c.args.operations.now c.args.cuts.now c.args.filters.now c.args.ids.now)
+    c.joining_is_invisible.ensures c.files_hold_one_contents.ensures c.schema_reads_back.ensures
+    (output_fits _ c.ids_fit.ensures) c.in-Ok.metas
+    (both (g.W.Directory.state c.args.work.now) (g.O.Directory.state c.args.output.now))
+    (both (g.W.Directory.state c.write_work_index.new.work) (g.O.Directory.state c.write_work_index.new.output))
+    c.in-Ok.ensures.does
 
-pub returns-in-Err-clause-untouched : goal.returns-in-Err-clause-untouched
-returns-in-Err-clause-untouched g c = first_same _ _ _ _ c.in-Err.ensures.ends.first
+pub merge_work-requires-clause-list : goal.merge_work-requires-clause-list
+merge_work-requires-clause-list g c =
+    is_list (g.Z.Analyzers.knows c.args.analyzers.now) (g.Z.Analyzers.tokens_of c.args.analyzers.now)
+    (input_of c.args.schema.now c.args.settings.now c.args.operations.now c.args.cuts.now c.args.filters.now c.args.ids.now)
+    c.in-Ok.metas c.in-Ok.ensures.meta c.in-Ok.metas
+    (both (g.W.Directory.state c.args.work.now) (g.O.Directory.state c.args.output.now))
+    (both (g.W.Directory.state c.write_work_index.new.work) (g.O.Directory.state c.write_work_index.new.output))
+    c.in-Ok.ensures.does
 
-pub returns-in-Err-clause-refused : goal.returns-in-Err-clause-refused
-returns-in-Err-clause-refused g c told = c.in-Err.ensures.ends.refused told
+pub merge_work-requires-clause-merged : goal.merge_work-requires-clause-merged
+merge_work-requires-clause-merged g c =
+    plan_merges (g.Z.Analyzers.knows c.args.analyzers.now) (g.Z.Analyzers.tokens_of c.args.analyzers.now)
+    (input_of c.args.schema.now c.args.settings.now c.args.operations.now c.args.cuts.now c.args.filters.now c.args.ids.now)
+    c.in-Ok.metas c.in-Ok.ensures.meta c.in-Ok-copied_plan.plan c.in-Ok-copied_plan.ensures c.in-Ok.metas
+    (both (g.W.Directory.state c.args.work.now) (g.O.Directory.state c.args.output.now))
+    (both (g.W.Directory.state c.write_work_index.new.work) (g.O.Directory.state c.write_work_index.new.output))
+    c.in-Ok.ensures.does
 
-pub returns-in-Err-clause-refused_untold : goal.returns-in-Err-clause-refused_untold
-returns-in-Err-clause-refused_untold g c = c.in-Err.ensures.ends.untold
-
-pub returns-in-Err-clause-whole : goal.returns-in-Err-clause-whole
-returns-in-Err-clause-whole g c told = c.in-Err.ensures.ends.whole told
-
-pub returns-in-Err-clause-calls : goal.returns-in-Err-clause-calls
-returns-in-Err-clause-calls g c = c.in-Err.ensures.calls
-
-pub returns-in-Ok-clause-any_moment : goal.returns-in-Ok-clause-any_moment
-returns-in-Ok-clause-any_moment g c told clean = c.in-Ok.ensures.ends.any_moment told clean
-
-pub returns-in-Ok-clause-at_rest : goal.returns-in-Ok-clause-at_rest
-returns-in-Ok-clause-at_rest g c told clean = c.in-Ok.ensures.ends.at_rest told clean
-
-pub returns-in-Err-clause-any_moment : goal.returns-in-Err-clause-any_moment
-returns-in-Err-clause-any_moment g c told clean = c.in-Err.ensures.ends.any_moment told clean
+pub returns : goal.returns
+returns g c =
+    merged_as (g.Z.Analyzers.knows c.args.analyzers.now) (g.Z.Analyzers.tokens_of c.args.analyzers.now)
+    (input_of c.args.schema.now c.args.settings.now c.args.operations.now c.args.cuts.now c.args.filters.now c.args.ids.now)
+    c.joining_is_invisible.ensures c.files_hold_one_contents.ensures c.schema_reads_back.ensures
+    (output_fits _ c.ids_fit.ensures) c.in-Ok.metas
+    (both (g.W.Directory.state c.args.work.now) (g.O.Directory.state c.args.output.now))
+    (both (g.W.Directory.state c.write_work_index.new.work) (g.O.Directory.state c.write_work_index.new.output))
+    c.in-Ok.ensures.does c.in-Ok.metas c.in-Ok.ensures.meta c.in-Ok-copied_plan.plan c.in-Ok-copied_plan.ensures
+    c.merge_work.ensures.read c.merge_work.result
+    (both (g.W.Directory.state c.merge_work.new.work) (g.O.Directory.state c.merge_work.new.output))
+    c.merge_work.ensures.built c.merge_work.ensures.does

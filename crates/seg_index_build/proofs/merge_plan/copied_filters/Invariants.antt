@@ -1,5 +1,5 @@
 use Rattle.std.proofs.Common.{◌≡◌, ◌++◌, drop}
-use Rattle.seg_index_build.proofs.held_input.copied_filters.Given as goal
+use Rattle.seg_index_build.proofs.merge_plan.copied_filters.Given as goal
 
 -- those so far, with those that are left, are all
 abbrev pub invariant-loop-filter : goal.invariant-loop-filter

@@ -1,6 +1,6 @@
 use Rattle.std.proofs.Common.{◌-◌, ◌∙◌, arith, length}
 use Rattle.seg_index_build.proofs.SegmentIds.{last_given, work_taken}
-use Rattle.seg_index_build.proofs.held_input.split_ids.Goals as goal
+use Rattle.seg_index_build.proofs.merge_plan.split_ids.Goals as goal
 
 pub returns-clause-work : goal.returns-clause-work
 returns-clause-work c = work_taken c.args.ids.now (length c.args.ids.now - 1) (omega (arith, c.requires))
