@@ -77,7 +77,8 @@ pub record MakesBatches {T : Type 0} (causes : List (Option TantivyError)) (sche
   pub whole : OnOk result (length files ≡ length ids)
   pub works : Works (batches_steps ids causes files) result before after
 
--- that of one batch is, and answered, while the deletes that wait are passed by; its first operation has the place `first`
+-- that of one batch is written and answered, while the deletes that wait are passed by; its first operation has the place
+-- `first`
 pub record WritesBatch (cause : Option TantivyError) (schema : Schema) (block_size : ℕ) (analyzer : Analyzer)
     (id first : ℕ) (batch : Batch) (result : Result WrittenSegment TantivyError)
     (old new : Queue TermTarget) (cursor : ℕ)

@@ -3,8 +3,6 @@ ghost use Rattle.std.specs.Prelude.{◌≡◌, ◌≤◌, ◌<◌, ◌+◌, ◌^
 ghost use Rattle.std.specs.List.{enumerate_from};
 ghost use Rattle.seg_check.specs.UserOperations.{operation_of};
 ghost use Rattle.seg_check.specs.WriterStart.{start_refusal};
-ghost use Rattle.seg_batches.specs.IndexedBatches.{AreOfBatch};
-ghost use Rattle.seg_model.specs.CheckAnswers.{Tells};
 ghost use Rattle.seg_batches.specs.BatchSegments.{IsSegmentOf, MakesSegment};
 ghost use Rattle.seg_batches.specs.DeleteCursors.{passed_below};
 ghost use Rattle.seg_batches.specs.BatchWriteSteps.{batch_cause};
@@ -59,7 +57,14 @@ pub(crate) fn make_batch<Z: Analyzers>(
         (Z.tokens_of analyzers.now) (enumerate_from first (map operation_of operations.now)))
         first result queue.old queue.new cursor.new }
 {
-    let (files, stamps) = batch_files(alloc, schema, settings, analyzers, id, first, operations)?;
+    let writer = match new_writer(alloc, schema, settings, analyzers, id) {
+        Ok(writer) => writer,
+        Err(e) => return Err(e),
+    };
+    let MemorySegment { files, stamps, .. } = match index_batch(first, operations, writer) {
+        Ok(segment) => segment,
+        Err(e) => return Err(e),
+    };
     let max_doc = stamps.len() as u32;
     let segment = Segment::new(schema.share(), SegmentMeta::new(id, max_doc, None));
     let Ok(alive) = alive_documents(alloc, &segment, &files, first, &stamps, queue, cursor) else {
@@ -70,33 +75,4 @@ pub(crate) fn make_batch<Z: Analyzers>(
         max_doc,
         alive,
     })
-}
-
-/// The files of a batch, and the stamps of its documents.
-fn batch_files<Z: Analyzers>(
-    alloc: Global,
-    schema: &Schema,
-    settings: &IndexSettings,
-    analyzers: &Z,
-    id: SegmentId,
-    first: Opstamp,
-    operations: &[UserOperation<TantivyDocument>],
-) -> TResult<(SegmentFiles, Vec<Opstamp>)>
-    requires places { first + length operations.now < 2 ^ 64 }
-    ensures made { IfOk result (λ m. AreOfBatch schema.now settings.now.docstore_blocksize
-        (Z.tokens_of analyzers.now) first
-        (map operation_of operations.now) m.0 m.1.items) }
-    ensures tells { Tells
-        (batch_cause (start_refusal (Z.knows analyzers.now) 15000 schema.now settings.now) schema.now
-        (Z.tokens_of analyzers.now) (enumerate_from first (map operation_of operations.now)))
-        result }
-{
-    let writer = match new_writer(alloc, schema, settings, analyzers, id) {
-        Ok(writer) => writer,
-        Err(e) => return Err(e),
-    };
-    match index_batch(first, operations, writer) {
-        Ok(MemorySegment { files, stamps, .. }) => Ok((files, stamps)),
-        Err(e) => Err(e),
-    }
 }

@@ -14,7 +14,7 @@ use Rattle.seg_model.specs.Input.{Input, input_batches}
 use Rattle.seg_model.specs.Laws.{AreReadingsOf, JoiningIsInvisible}
 use Rattle.seg_model.specs.ValidInputs.{Known, input_refusal, settings_fit}
 use Rattle.seg_segment.specs.Laws.{HoldsOneContents}
-use Rattle.seg_segment.specs.SegmentReadSteps.{IsReadError}
+use Rattle.seg_segment.specs.ReadErrors.{IsReadError}
 use Rattle.seg_open.specs.OpenSegment.{OpenSegment, kept_count, part_of}
 use Rattle.seg_open.specs.OpeningSteps.{IsNoDamage, OpensSegments}
 use Rattle.seg_open.proofs.Exports.{segments_rose, segments_so}
@@ -154,8 +154,11 @@ module _ (analyzer : Analyzer) (input : Input) where
     where
       later_of : Filled analyzer input a n.work n.output → a.work.faults ≤ n.work.faults
       later_of f =
-          omega (arith, begun_later analyzer input a f.begun_at n.output f.begun,
-          filled_counts input.settings input.schema analyzer (work_ids input.ids) input.cuts input.operations tt f.begun_at n.work f.fills)
+          omega (
+            arith,
+            begun_later analyzer input a f.begun_at n.output f.begun,
+            filled_counts input.settings input.schema analyzer (work_ids input.ids) input.cuts input.operations tt f.begun_at n.work f.fills,
+          )
 
   module _ (fits : Fits analyzer input) (settings : settings_fit input.settings ≡ true) where
     abbrev merged : AreMerged (merge_of analyzer input)

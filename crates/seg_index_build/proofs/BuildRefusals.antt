@@ -24,7 +24,7 @@ use Rattle.seg_check.specs.WriterStart.{start_refusal}
 use Rattle.seg_open.specs.OpeningSteps.{IsNoDamage}
 use Rattle.seg_check.specs.AdmittedInputs.{IsValidIf}
 use Rattle.seg_model.proofs.Exports.{Fits, Taken, first_none, none_map, or_both, parts_none, taken_pass}
-use Rattle.seg_segment.specs.SegmentReadSteps.{IsReadError}
+use Rattle.seg_segment.specs.ReadErrors.{IsReadError}
 use Rattle.seg_batches.proofs.Exports.{if_refusal}
 
 -- ---- kinds of errors

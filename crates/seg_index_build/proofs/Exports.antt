@@ -11,7 +11,6 @@ pub use Rattle.seg_index_build.proofs.MergeOnDisk.{begins_on_disk, begun_tells, 
 pub use Rattle.seg_index_build.proofs.MergeOutcomes.{cause_of, merged_refusal, one_only}
 pub use Rattle.seg_index_build.proofs.MergeOutputs.{first_at}
 pub use Rattle.seg_index_build.proofs.OutputSteps.{one_files, one_index}
-pub use Rattle.seg_index_build.proofs.SourceTurns.{starved}
 pub use Rattle.seg_index_build.proofs.TakenParts.{builds_seen, gained_as, holds_taken}
 pub use Rattle.seg_index_build.proofs.WorkReadings.{IsCounted, alive_read, batches_counted, counts}
 pub use Rattle.seg_index_build.proofs.WriteErrors.{IsWriteError, calls_so, so_before, write_undamaged, write_unrefused}

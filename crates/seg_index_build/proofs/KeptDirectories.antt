@@ -31,7 +31,7 @@ use Rattle.seg_batches.specs.WrittenSegments.{WrittenSegment, alive_file, alive_
 use Rattle.seg_index_build.specs.DirectoryCalls.{BeginsIndexes, BuildsIndexes, FillsWork, WritesIndexes, lists_none, merge_of}
 use Rattle.seg_index_build.specs.IndexFiles.{work_ids, work_listed, work_segments}
 use Rattle.seg_index_build.specs.MergedSegments.{FillsOutput, MergeInput, MergesLive, fills, first_schema, live_asked, mixes, starves}
-use Rattle.seg_index_build.specs.OtherFiles.{KeepsOthers, output_files, work_files}
+use Rattle.seg_index_build.specs.OtherFiles.{KeepsOthers, merged_files, output_files, work_files}
 use Rattle.seg_index_build.specs.TwoDirectories.{Directories, goes_on, stops}
 use Rattle.seg_index_build.specs.IndexWriteSteps.{begin_steps}
 use Rattle.seg_index_build.specs.WorkIndexSteps.{WritesSegments, after_batches, finish_steps, in_batches, listing_meta}
@@ -41,7 +41,7 @@ use Rattle.seg_index_build.proofs.WritingPlaces.{many}
 -- ---- what steps keep
 
 module _ (names : List FileName) where
-  same_keeps : (a b : DirectoryState) → b ≡ a → KeepsAllBut names a.files b.files
+  pub same_keeps : (a b : DirectoryState) → b ≡ a → KeepsAllBut names a.files b.files
   same_keeps a b same other all = ap (λ (s : DirectoryState). get s.files other) same
 
   then_keeps : (a b c : NamedFiles) → KeepsAllBut names a b → KeepsAllBut names b c → KeepsAllBut names a c
@@ -54,7 +54,7 @@ module _ (names : List FileName) where
 
 module _ (m : MergeInput) where
   abbrev made : List FileName
-  made = Meta ∷ segment_names m.id
+  made = merged_files m.id
 
   begin_keeps : {T : Type 0} (r : Result T TantivyError) (a b : DirectoryState)
       → Works (begin_steps m.settings (first_schema m.segments)) r a b → KeepsAllBut made a.files b.files

@@ -13,6 +13,7 @@ mod UnfilteredSegments
 mod MergeCalls
 mod MergeCounts
 mod IndexMergeErrors
+mod MergeEnds
 mod MergeErrors
 mod MergeOutputs
 mod MergeContents

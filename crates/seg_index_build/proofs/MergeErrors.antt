@@ -13,7 +13,7 @@ use Rattle.seg_directory.proofs.Exports.{all_went, never_there}
 use Rattle.seg_directory.specs.DirectoryStates.{DirectoryState}
 use Rattle.seg_model.specs.DocumentCheck.{unless}
 use Rattle.seg_model.specs.Refusals.{IfRefusal, IsRefusal}
-use Rattle.seg_segment.specs.SegmentReadSteps.{IsReadError}
+use Rattle.seg_segment.specs.ReadErrors.{IsReadError}
 use Rattle.seg_segment.proofs.Exports.{keeps_untouched, failing, same_error}
 use Rattle.seg_open.specs.OpenSegment.{OpenSegment, kept_count}
 use Rattle.seg_open.specs.OpeningSteps.{IsNoDamage, OpensSegments}

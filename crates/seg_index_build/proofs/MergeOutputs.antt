@@ -22,7 +22,8 @@ use Rattle.seg_segment.specs.SegmentFiles.{write_steps}
 use Rattle.seg_segment.specs.SegmentSerializers.{Serializing, unfilled}
 use Rattle.seg_segment.specs.declared.segment_files.SegmentFiles.{SegmentFiles}
 use Rattle.seg_open.specs.OpenSegment.{OpenSegment, kept_count}
-use Rattle.seg_open.specs.OpeningSteps.{AreFound, Asked, Found, OpensSegments}
+use Rattle.seg_open.specs.OpeningSteps.{Asked, OpensSegments}
+use Rattle.seg_open.proofs.Exports.{starves_all}
 use Rattle.seg_merger.specs.Merger.{AreJoinedFiles, IsMergerOf, Merging, OpensMerger, WritesJoined, all_fit, makes, merger_refusal, mixes as merger_mixes, opens, refuses, runs_out, starves as merger_starves, stops as merger_stops}
 use Rattle.seg_index_build.specs.IndexFiles.{merged_meta}
 use Rattle.seg_index_build.specs.MergedSegments.{FillsOutput, FillsTo, MergeInput, MergesTo, OpensLive, are_opened, fills, first_schema, is_live, joined, kept_filters, live_asked, mixes, not_opened, output_meta_of, starves}
@@ -52,22 +53,9 @@ all_kept segments filters n end kept so_far =
 
 -- ---- segments are opened
 
-abbrev nothing : Asked → Found
-nothing a = record {
-  files = record { terms = []; store = []; postings = []; positions = []; fast_fields = []; field_norms = [] };
-  refusal = None;
-  alive_file = [];
-}
-
-none_damaged : (asked : List Asked) → AreFound asked (map nothing asked)
-none_damaged [] = tt
-none_damaged (a ∷ asked) = (tt, none_damaged asked)
-
 -- memory runs out before any call
 pub live_starved : (asked : List Asked) (a : DirectoryState) → OpensLive asked (Err OutOfMemory) a a
-live_starved asked a =
-    not_opened OutOfMemory refl
-    (record { found = map nothing asked; damaged = none_damaged asked; works = does_nothing _; are = tt })
+live_starved asked a = not_opened OutOfMemory refl (starves_all asked a)
 
 module _ (schema : Schema) (segments : List SegmentParts) (filters : List (Option Filter)) (given : Schema) (live : List SegmentParts)
     (same : given ≡ schema) (lives : live ≡ filter (λ s. is_live s.meta) segments) where

@@ -26,8 +26,7 @@ no_meta id at is = cc is
 no_six : (id at : ℕ) (ids : List ℕ) → AllByRecursion (λ name. Alive id at ≢ name) (six_files ids)
 no_six id at [] = tt
 no_six id at (other ∷ ids) =
-    all_both (λ name. Alive id at ≢ name) (segment_names other) (six_files ids)
-    (
+    all_both (λ name. Alive id at ≢ name) (segment_names other) (six_files ids) (
       no_part id at other _,
       (
         no_part id at other _,

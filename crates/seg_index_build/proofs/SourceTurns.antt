@@ -1,5 +1,5 @@
 -- Segments of several directories, opened in a loop over these.
-use Rattle.std.proofs.Common.{◌≡◌, ◌∙◌, ℕ, ◌+◌, ◌<◌, List, [], ◌∷◌, ◌++◌, map, length, take, drop, get_or, None, Result, Ok, Err, refl, sym, ap, subst, arith}
+use Rattle.std.proofs.Common.{◌≡◌, ◌∙◌, ℕ, ◌+◌, ◌<◌, List, [], ◌∷◌, ◌++◌, map, length, take, drop, get_or, Result, Ok, Err, refl, sym, ap, subst, arith}
 use Rattle.std.proofs.lemmas.List.{append-nil, append_assoc, drop-set-lt, drop_all, map-append, take-append-drop, take_all, take_more_set}
 use Rattle.std.specs.Prelude.{◌≤◌, slice_set}
 use Rattle.seg_values.specs.declared.error.TantivyError.{TantivyError}
@@ -9,37 +9,22 @@ use Rattle.seg_directory.specs.DirectoryStates.{DirectoryState}
 use Rattle.seg_directory.specs.DirectorySteps.{Step, Works}
 use Rattle.seg_segment.proofs.Exports.{drop-item}
 use Rattle.seg_open.specs.OpenSegment.{OpenSegment}
-use Rattle.seg_open.specs.OpeningSteps.{AreFound, Asked, Found, OpensSegments, all_steps}
+use Rattle.seg_open.specs.OpeningSteps.{Asked, OpensSegments, all_steps}
 use Rattle.seg_index_build.specs.Sources.{OpensSources, followed, goes_on, stops}
 
 -- ---- one directory
-
-abbrev nothing : Asked → Found
-nothing a = record {
-  files = record { terms = []; store = []; postings = []; positions = []; fast_fields = []; field_norms = [] };
-  refusal = None;
-  alive_file = [];
-}
 
 -- memory runs out after all that went well
 pub runs_out : (asked : List Asked) (opened : List OpenSegment) (a b : DirectoryState) → OpensSegments asked (Ok opened) a b
     → OpensSegments asked (Err OutOfMemory) a b
 runs_out asked opened a b h = record {
   found = h.found;
-  damaged = h.damaged;
+  checked = h.checked;
   works =
       subst (λ (steps : List Step). Works {T = List OpenSegment} steps (Err OutOfMemory) a b)
       (append-nil (all_steps asked h.found)) (then_does h.works (does_nothing []));
   are = tt;
 }
-
-none_damaged : (asked : List Asked) → AreFound asked (map nothing asked)
-none_damaged [] = tt
-none_damaged (a ∷ asked) = (tt, none_damaged asked)
-
--- or before any call
-pub starved : (asked : List Asked) (a : DirectoryState) → OpensSegments asked (Err OutOfMemory) a a
-starved asked a = record { found = map nothing asked; damaged = none_damaged asked; works = does_nothing _; are = tt }
 
 -- ---- all of them
 

@@ -75,8 +75,11 @@ module _ (analyzer : Analyzer) (input : Input) where
       -- no count of faults fell
       pub filled_later : a.work.faults ≤ w.faults
       filled_later =
-          omega (arith, begun_later a filled.begun_at o filled.begun,
-          filled_counts input.settings input.schema analyzer (work_ids input.ids) input.cuts input.operations tt filled.begun_at w filled.fills)
+          omega (
+            arith,
+            begun_later a filled.begun_at o filled.begun,
+            filled_counts input.settings input.schema analyzer (work_ids input.ids) input.cuts input.operations tt filled.begun_at w filled.fills,
+          )
 
       pub filled_output_later : a.output.faults ≤ o.faults
       filled_output_later = (all_went filled.begun.lists_output).later

@@ -7,6 +7,7 @@ pub mod IndexMergeAnswers
 pub mod IndexTotals
 pub mod IndexWriteSteps
 pub mod MergeAnswers
+pub mod MergeOutcomes
 pub mod MergePlans
 pub mod MergedIndices
 pub mod MergedSegments

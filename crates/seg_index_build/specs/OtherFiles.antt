@@ -20,9 +20,13 @@ LacksAlive files s = list_all (λ b. b) s.alive ≡ true → (stamp : ℕ) → g
 abbrev pub work_files : Analyzer → Input → List FileName
 work_files analyzer input = Meta ∷ (six_files (work_ids input.ids) ++ alive_files (work_listed analyzer input))
 
--- and in the output directory
+-- by a merge into one segment of an id: the meta, and the six of the segment
+abbrev pub merged_files : ℕ → List FileName
+merged_files id = Meta ∷ segment_names id
+
+-- and so in the output directory
 abbrev pub output_files : Input → List FileName
-output_files input = Meta ∷ segment_names (output_id input.ids)
+output_files input = merged_files (output_id input.ids)
 
 -- both directories keep all other files, whatever is answered
 pub record KeepsOthers (analyzer : Analyzer) (input : Input) (before after : Directories) : Type 0 where

@@ -1,22 +1,15 @@
 //! The merge of segments into an index of one segment.
-ghost use Rattle.std.specs.Prelude.{◌≡◌, ◌≢◌, ◌⊎◌, ℕ, List, [], Some, None, Err, true, map, length, Option, IfOk, IfErr, IsTrue, MatchBool, OnOk};
-ghost use Rattle.std.specs.FinMap.{len};
+ghost use Rattle.std.specs.Prelude.{◌≡◌, ℕ, List, Some, true, Option, IfOk, IfErr, MatchBool, OnOk};
 ghost use Rattle.std.specs.List.{AllByRecursion, filter};
-ghost use Rattle.seg_directory.specs.DirectoryStates.{HasOnly, IsEmptyDisk, LeavesOnly};
 ghost use Rattle.seg_meta.specs.MetaBounds.{AreReadBack};
-ghost use Rattle.seg_meta.specs.IndexOfFiles as index;
 ghost use Rattle.seg_meta.specs.MetaMeaning.{meta_of, settings_of};
 ghost use Rattle.seg_model.specs.Input.{Filter};
 ghost use Rattle.seg_model.specs.ValidInputs.{settings_fit};
 ghost use Rattle.seg_open.specs.Answers.{seen_as};
-ghost use Rattle.seg_open.specs.OpeningSteps.{IsNoDamage};
 ghost use Rattle.seg_merger.specs.Merger.{all_fit};
-ghost use Rattle.seg_segment.specs.IndexForms.{segment_forms};
-ghost use Rattle.seg_index_build.specs.FilesAfterCrash.{AreMergeOf, MayBeMerged};
-ghost use Rattle.seg_index_build.specs.IndexFiles.{merged_meta};
-ghost use Rattle.seg_index_build.specs.MergeAnswers.{CanBeMerged, IsMergeError, IsMergeOf, IsWholeIndex, LiveAreWhole};
 ghost use Rattle.seg_index_build.specs.EntryOptions.{options_of};
-ghost use Rattle.seg_index_build.specs.MergedSegments.{AreMerged, FillsTo, IsRefusal, MergesSegments, MergesTo, OpensLive, first_schema, is_live, kept_filters, live_asked, merge_input};
+ghost use Rattle.seg_index_build.specs.MergeOutcomes.{MergeComesTo};
+ghost use Rattle.seg_index_build.specs.MergedSegments.{AreMerged, FillsTo, IsRefusal, MergesTo, OpensLive, first_schema, is_live, kept_filters, live_asked, merge_input};
 ghost use Rattle.seg_index_build.specs.TwoDirectories.{both};
 
 use crate::index_files::{begin_index, save_index};
@@ -57,37 +50,8 @@ pub fn merge_filtered_segments<W: Directory, O: Directory>(
     work: &mut W,
     output: &mut O,
 ) -> TResult<Index>
-    ensures does { MergesSegments (merge_input segments.now target_settings filters.items id) result
+    ensures { MergeComesTo (merge_input segments.now target_settings filters.items id) result
         (both (W.state work.old) (O.state output.old)) (both (W.state work.new) (O.state output.new)) }
-    ensures meta { IfOk result (λ merged. (documents : ℕ) × (meta_of merged
-        ≡ merged_meta (settings_of target_settings) (first_schema segments.now)
-        (map (λ s. s.meta.id) segments.now) id documents)) }
-    ensures refused { (e : TantivyError)
-        → IsRefusal (merge_input segments.now target_settings filters.items id) segments.now (Some e)
-        → (result ≡ Err e) × (W.state work.new ≡ W.state work.old) × (O.state output.new ≡ O.state output.old) }
-    ensures errors { IfErr result (IsMergeError (merge_input segments.now target_settings filters.items id)
-        (both (W.state work.old) (O.state output.old)) (both (W.state work.new) (O.state output.new))) }
-    ensures index { IsTrue (W.state work.old).tells → IfOk result (λ merged.
-        IsMergeOf (merge_input segments.now target_settings filters.items id) (W.state work.old).files
-        (IsTrue (O.state output.old).tells) (O.state output.new).files (meta_of merged)) }
-    ensures output_meta { IsTrue (O.state output.old).tells
-        → IfOk result (λ merged. index.index_of segment_forms (O.state output.new).files ≡ Some (meta_of merged)) }
-    ensures output_whole { IsTrue (O.state output.old).tells
-        → IfOk result (λ merged. IsWholeIndex (O.state output.new).files (meta_of merged)) }
-    ensures work_stays { (W.state work.new).files ≡ (W.state work.old).files }
-    ensures undamaged { IsTrue (W.state work.old).tells → LiveAreWhole (W.state work.old).files segments.now
-        → IfErr result IsNoDamage }
-    ensures any_moment { IsTrue (W.state work.old).tells → IsEmptyDisk (O.state output.old).disk → LeavesOnly
-        (MayBeMerged (merge_input segments.now target_settings filters.items id) (W.state work.old).files)
-        (O.state output.old).disk (O.state output.new).disk }
-    ensures at_rest { IsTrue (W.state work.old).tells → IsEmptyDisk (O.state output.old).disk → OnOk result (HasOnly
-        (AreMergeOf (merge_input segments.now target_settings filters.items id) (W.state work.old).files)
-        (O.state output.new).disk.now) }
-    ensures fresh { IsTrue (O.state output.old).tells → len (O.state output.old).files ≡ 0
-        → result ≢ Err TantivyError.IndexAlreadyExists }
-    ensures complete { CanBeMerged (merge_input segments.now target_settings filters.items id)
-        (both (W.state work.old) (O.state output.old)) (both (W.state work.new) (O.state output.new))
-        → IfErr result (λ e. e ≡ TantivyError.OutOfMemory) }
 {
     id_fits(&id);
     match check_segments(segments, &target_settings, &filters) {

@@ -1,17 +1,10 @@
 //! The merge of indices into one.
-ghost use Rattle.std.specs.Prelude.{◌≡◌, ◌≢◌, ◌⊎◌, ℕ, Some, Err, map, length, IfErr, IfOk, IsTrue, OnOk};
-ghost use Rattle.std.specs.FinMap.{len};
-ghost use Rattle.seg_directory.specs.DirectoryStates.{HasOnly, IsEmptyDisk, LeavesOnly};
-ghost use Rattle.seg_meta.specs.IndexOfFiles as index;
+ghost use Rattle.std.specs.Prelude.{◌≡◌, map, length};
 ghost use Rattle.seg_meta.specs.MetaMeaning.{meta_of, settings_of};
-ghost use Rattle.seg_segment.specs.IndexForms.{segment_forms};
 ghost use Rattle.seg_open.specs.Answers.{seen_as};
-ghost use Rattle.seg_open.specs.OpeningSteps.{IsNoDamage};
-ghost use Rattle.seg_index_build.specs.MergeAnswers.{IsWholeIndex};
-ghost use Rattle.seg_index_build.specs.MergedSegments.{AreMerged, merge_input, output_meta_of};
-ghost use Rattle.seg_index_build.specs.MergedIndices.{IsRefusal, IsUnlike, MergesAlike, MergesIndices, MergesSources, asked_of_index, first_settings, indices_input, places, unfiltered};
-ghost use Rattle.seg_index_build.specs.IndexMergeAnswers.{AreMergeOfIndices, CanBeMerged, IsMergeError, IsMergeOfIndices, MayBeMergedIndices, SourcesAreWhole};
-ghost use Rattle.seg_index_build.specs.Sources.{AllTell, files_of};
+ghost use Rattle.seg_index_build.specs.MergeOutcomes.{IndexMergeComesTo};
+ghost use Rattle.seg_index_build.specs.MergedIndices.{MergesAlike, MergesIndices, MergesSources, asked_of_index, first_settings, indices_input, places, unfiltered};
+ghost use Rattle.seg_index_build.specs.MergedSegments.{AreMerged, merge_input};
 
 use crate::source_readers::open_indices;
 use crate::source_segments::{all_segments, have_settings, no_filters};
@@ -38,39 +31,9 @@ pub fn merge_indices<W: Directory, O: Directory>(
     output: &mut O,
 ) -> TResult<Index>
     requires many { length sources.old ≡ length indices.now }
-    ensures does { MergesIndices indices.now id (seen_as (λ merged. meta_of merged) result)
+    ensures { IndexMergeComesTo indices.now id result
         (places (map W.state sources.old) (O.state output.old))
         (places (map W.state sources.new) (O.state output.new)) }
-    ensures meta { IfOk result (λ merged. (documents : ℕ)
-        × (meta_of merged ≡ output_meta_of (indices_input indices.now id) documents)) }
-    ensures unlike { (e : TantivyError) → IsUnlike indices.now e → (result ≡ Err e)
-        × (map W.state sources.new ≡ map W.state sources.old) × (O.state output.new ≡ O.state output.old) }
-    ensures refused { (e : TantivyError) → IsRefusal indices.now (indices_input indices.now id) e
-        → ((result ≡ Err e) ⊎ (result ≡ Err TantivyError.OutOfMemory))
-        × (map W.state sources.new ≡ map W.state sources.old) × (O.state output.new ≡ O.state output.old) }
-    ensures errors { IfErr result (IsMergeError indices.now id
-        (places (map W.state sources.old) (O.state output.old))
-        (places (map W.state sources.new) (O.state output.new))) }
-    ensures index { AllTell (map W.state sources.old) → IfOk result (λ merged.
-        IsMergeOfIndices indices.now id (files_of (map W.state sources.old)) (IsTrue (O.state output.old).tells)
-        (O.state output.new).files (meta_of merged)) }
-    ensures output_meta { IsTrue (O.state output.old).tells
-        → IfOk result (λ merged. index.index_of segment_forms (O.state output.new).files ≡ Some (meta_of merged)) }
-    ensures output_whole { IsTrue (O.state output.old).tells
-        → IfOk result (λ merged. IsWholeIndex (O.state output.new).files (meta_of merged)) }
-    ensures sources_stay { files_of (map W.state sources.new) ≡ files_of (map W.state sources.old) }
-    ensures undamaged { AllTell (map W.state sources.old)
-        → SourcesAreWhole (files_of (map W.state sources.old)) indices.now → IfErr result IsNoDamage }
-    ensures any_moment { AllTell (map W.state sources.old) → IsEmptyDisk (O.state output.old).disk → LeavesOnly
-        (MayBeMergedIndices indices.now id (files_of (map W.state sources.old)))
-        (O.state output.old).disk (O.state output.new).disk }
-    ensures at_rest { AllTell (map W.state sources.old) → IsEmptyDisk (O.state output.old).disk → OnOk result (HasOnly
-        (AreMergeOfIndices indices.now id (files_of (map W.state sources.old))) (O.state output.new).disk.now) }
-    ensures fresh { IsTrue (O.state output.old).tells → len (O.state output.old).files ≡ 0
-        → result ≢ Err TantivyError.IndexAlreadyExists }
-    ensures complete { CanBeMerged indices.now id
-        (places (map W.state sources.old) (O.state output.old)) (places (map W.state sources.new) (O.state output.new))
-        → IfErr result (λ e. e ≡ TantivyError.OutOfMemory) }
 {
     id_fits(&id);
     compare_and_merge(alloc, indices, sources, id, output)

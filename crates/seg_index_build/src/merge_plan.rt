@@ -39,10 +39,7 @@ pub(crate) fn plan_of(input: BuildInput) -> MergePlan
 }
 
 /// What it needs of one that is lent.
-pub(crate) fn copied_plan(
-    alloc: Global,
-    input: &BuildInputRef<'_>,
-) -> Result<MergePlan, AllocError>
+pub(crate) fn copied_plan(alloc: Global, input: &BuildInputRef<'_>) -> Result<MergePlan, AllocError>
     requires { 2 ≤ length input.now.ids }
     ensures { IfOk result (IsMergePlan input.now) }
 {

@@ -29,6 +29,7 @@ use Rattle.seg_segment.specs.SpelledContents.{Spell}
 use Rattle.seg_segment.specs.declared.segment_files.SegmentFiles.{SegmentFiles}
 use Rattle.seg_open.specs.Disagreement.{Disagree, IsFirstWrong, IsWhyNotOpen}
 use Rattle.seg_open.specs.OpenedFieldParts.{MayHold}
+use Rattle.seg_open.specs.OpenedFiles.{NormsUnopened, StoreOpened, StoreUnopened}
 use Rattle.seg_open.specs.OpenedTermFiles.{IsTold, PositionsOpened, PositionsUnopened, PostingsOpened, PostingsUnopened, TermsOpened, TermsUnopened}
 use Rattle.seg_open.specs.SoundFiles.{SoundPositions, SoundPostings, SoundStore, SoundTerms}
 use Rattle.seg_open.specs.declared.open_error.OpenError.{OpenError}
@@ -57,13 +58,13 @@ record ByRules (postings positions : List Part) (field : ℕ) (part : FirstPart)
 
 module _ (schema : Schema) (documents : ℕ) (files : SegmentFiles) where
   -- the store isn't one of this many documents in the stored fields of the schema
-  store_disagrees : ((blocks : List Block) → store_of files.store ≡ Some blocks → have_stored_fields schema (documents_of blocks) ≡ true → length (documents_of blocks) ≢ documents) → Disagree schema documents files Store
+  pub store_disagrees : StoreUnopened schema documents files.store → Disagree schema documents files Store
   store_disagrees none completed contents same spell number =
       let m = mapped (store_of completed.store) contents.stored spell.stored in
       none m.blocks (ap store_of (sym same.1.0) ∙ m.is) (ap (have_stored_fields schema) m.same ∙ spell.stored_fields) (ap length m.same ∙ spell.shape.stored ∙ number)
 
   -- the columns aren't those of this many documents
-  columns_disagree : (HoldColumns schema documents files.fast_fields → ⊥) → Disagree schema documents files FastFields
+  pub columns_disagree : (HoldColumns schema documents files.fast_fields → ⊥) → Disagree schema documents files FastFields
   columns_disagree other completed contents same spell number =
       let columns = columns_in (column_file_of completed.fast_fields) in
       let suit : SuitColumns schema contents.documents contents.columns = record {
@@ -82,7 +83,7 @@ module _ (schema : Schema) (documents : ℕ) (files : SegmentFiles) where
       other (subst (λ (bytes : List ℕ). HoldColumns schema documents bytes) same.1.1.1.1.0 held)
 
   -- the length ids aren't those of this many documents in the fields of the schema
-  norms_disagree : ((norms : List (List ℕ)) → AreNorms schema documents norms → composite files.field_norms ≢ Some (norms_parts schema norms)) → Disagree schema documents files FieldNorms
+  pub norms_disagree : NormsUnopened schema documents files.field_norms → Disagree schema documents files FieldNorms
   norms_disagree none completed contents same spell number =
       none contents.norms
       (record {
@@ -101,7 +102,7 @@ module _ (schema : Schema) (documents : ℕ) (files : SegmentFiles) where
   }
 
   -- a field of a schema lacks its dictionary
-  terms_disagree : TermsUnopened schema files.terms → Disagree schema documents files Terms
+  pub terms_disagree : TermsUnopened schema files.terms → Disagree schema documents files Terms
   terms_disagree unopened completed contents same spell number =
       let h = spell.hold_terms in
       let one = unopened h.term_parts (record { file = ap composite (sym same.0) ∙ h.term_file; fields = h.term_fields }) in
@@ -135,7 +136,7 @@ module _ (schema : Schema) (documents : ℕ) (files : SegmentFiles) where
         }
 
     -- the postings of a field are completed by no positions
-    postings_disagree : PostingsUnopened schema files.postings dictionaries → Disagree schema documents files Postings
+    pub postings_disagree : PostingsUnopened schema files.postings dictionaries → Disagree schema documents files Postings
     postings_disagree unopened completed contents same spell number =
         let h = spell.hold_terms in
         let one = unopened h.posting_parts (record { file = ap composite (sym same.1.1.0) ∙ h.posting_file; fields = h.posting_fields }) in
@@ -143,7 +144,7 @@ module _ (schema : Schema) (documents : ℕ) (files : SegmentFiles) where
         one.lacks f.postings_part f.in_postings f.positions_part f.total f.terms f.by
 
     -- the positions of a field don't complete it
-    positions_disagree : (both : List (Option FirstParts)) → PostingsOpened schema files.postings dictionaries both → PositionsUnopened schema files.positions both → Disagree schema documents files Positions
+    pub positions_disagree : (both : List (Option FirstParts)) → PostingsOpened schema files.postings dictionaries both → PositionsUnopened schema files.positions both → Disagree schema documents files Positions
     positions_disagree both second unopened completed contents same spell number =
         let h = spell.hold_terms in
         let one = unopened h.position_parts (record { file = ap composite (sym same.1.1.1.0) ∙ h.position_file; fields = h.position_fields }) in
@@ -161,34 +162,34 @@ module _ (schema : Schema) (documents : ℕ) (files : SegmentFiles) where
   terms_wrong unopened = record { disagree = terms_disagree unopened; first = tt }
 
   module _ (dictionaries : List (Option FirstPart)) (first : TermsOpened schema documents files.terms dictionaries) where
-    terms_are : SoundTerms schema files.terms
+    pub terms_are : SoundTerms schema files.terms
     terms_are = sound_terms schema documents files.terms dictionaries first
 
-    pub store_wrong : ((blocks : List Block) → store_of files.store ≡ Some blocks → have_stored_fields schema (documents_of blocks) ≡ true → length (documents_of blocks) ≢ documents) → IsFirstWrong schema documents files Store
+    pub store_wrong : StoreUnopened schema documents files.store → IsFirstWrong schema documents files Store
     store_wrong none = record { disagree = store_disagrees none; first = (terms_are, tt) }
 
-    module _ (blocks : List Block) (is : store_of files.store ≡ Some blocks) (of_fields : have_stored_fields schema (documents_of blocks) ≡ true) (stored : length (documents_of blocks) ≡ documents) where
-      store_is : SoundStore schema documents files.store
-      store_is = record { blocks = blocks; is = is; stored_fields = of_fields; stored = stored }
+    module _ (blocks : List Block) (store : StoreOpened schema documents files.store blocks) where
+      pub store_is : SoundStore schema documents files.store
+      store_is = record { blocks = blocks; is = store.0; stored_fields = store.1; stored = store.2 }
 
       pub postings_wrong : PostingsUnopened schema files.postings dictionaries → IsFirstWrong schema documents files Postings
       postings_wrong unopened = record { disagree = postings_disagree dictionaries first unopened; first = (terms_are, (store_is, tt)) }
 
       module _ (both : List (Option FirstParts)) (second : PostingsOpened schema files.postings dictionaries both) where
-        postings_are : SoundPostings schema documents files.terms files.postings
+        pub postings_are : SoundPostings schema documents files.terms files.postings
         postings_are = sound_postings schema documents files.terms dictionaries first files.postings both second
 
         pub positions_wrong : PositionsUnopened schema files.positions both → IsFirstWrong schema documents files Positions
         positions_wrong unopened = record { disagree = positions_disagree dictionaries first both second unopened; first = (terms_are, (store_is, (postings_are, tt))) }
 
         module _ (fields : List (Option OpenField)) (third : PositionsOpened schema files.positions both fields) where
-          positions_are : SoundPositions schema documents files.terms files.postings files.positions
+          pub positions_are : SoundPositions schema documents files.terms files.postings files.positions
           positions_are = sound_positions schema documents files.terms dictionaries first files.postings both second files.positions fields third
 
           pub columns_wrong : (HoldColumns schema documents files.fast_fields → ⊥) → IsFirstWrong schema documents files FastFields
           columns_wrong other = record { disagree = columns_disagree other; first = (terms_are, (store_is, (postings_are, (positions_are, tt)))) }
 
-          pub norms_wrong : HoldColumns schema documents files.fast_fields → ((norms : List (List ℕ)) → AreNorms schema documents norms → composite files.field_norms ≢ Some (norms_parts schema norms)) → IsFirstWrong schema documents files FieldNorms
+          pub norms_wrong : HoldColumns schema documents files.fast_fields → NormsUnopened schema documents files.field_norms → IsFirstWrong schema documents files FieldNorms
           norms_wrong columns none = record { disagree = norms_disagree none; first = (terms_are, (store_is, (postings_are, (positions_are, (columns, tt))))) }
 
   -- what the opening of a file tells

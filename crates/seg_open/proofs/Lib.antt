@@ -12,5 +12,6 @@ mod OpenedSegments
 mod OpeningOnDisk
 mod OpeningSteps
 mod OpenedPlaces
+mod ReadFiles
 mod OpeningStages
 mod UnopenedFiles

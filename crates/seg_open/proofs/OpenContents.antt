@@ -1,4 +1,4 @@
--- The files of a segment that is open spell the contents of its reader.
+-- The files of a segment that is open spell the contents that its readers have.
 use Rattle.std.proofs.Common.{◌≡◌, ℕ, true, false, List, [], map, Option, Some, None, refl, sym, ap, ◌∙◌, subst, slice_get}
 use Rattle.std.specs.Prelude.{is_some, unwrap_or}
 use Rattle.std.specs.FinMap.{get, empty, get-empty}
@@ -11,10 +11,12 @@ use Rattle.std.proofs.lemmas.List.{length-map}
 use Rattle.std.proofs.lemmas.Option.{slice_get-map, unwrap_or-slice_get}
 use Rattle.seg_common.specs.LittleEndian.{u64_at}
 use Rattle.seg_values.specs.declared.schema.FieldEntry.{FieldEntry}
-use Rattle.seg_column_file.specs.ColumnFiles.{ColumnFile}
+use Rattle.seg_column_file.specs.ColumnFiles.{ColumnFile, column_file_of}
 use Rattle.seg_column_format.specs.ModelColumns.{columns_in}
 use Rattle.seg_column_format.specs.SchemaColumns.{SuitColumns}
-use Rattle.seg_model.specs.Fields.{is_indexed}
+use Rattle.seg_fastfield.specs.OpenFastFields.{FastFields}
+use Rattle.seg_model.specs.Contents.{Contents}
+use Rattle.seg_model.specs.Fields.{Schema, is_indexed}
 use Rattle.seg_model.specs.DocumentTerms.{Terms, Posting}
 use Rattle.seg_model.specs.Shape.{HasFullShape, IsTermWith}
 use Rattle.seg_directory.specs.CompositeFiles.{Part, field_of}
@@ -24,8 +26,9 @@ use Rattle.seg_postings.specs.OpenedFields.{OpenField, written_terms}
 use Rattle.seg_postings.specs.TermMaps.{TermsReadHaveShape}
 use Rattle.seg_open.specs.OpenedFieldParts.{IsOpened}
 use Rattle.seg_segment.specs.TermFiles.{HoldsField}
-use Rattle.seg_open.specs.OpenSegment.{OpenSegment, terms_in, contents_of}
-use Rattle.seg_open.specs.OpenedFiles.{TermsAreOpen, IsOpen}
+use Rattle.seg_open.specs.OpenSegment.{contents_in, terms_in}
+use Rattle.seg_open.specs.OpenedFiles.{AreOpen, TermsAreOpen}
+use Rattle.seg_open.specs.declared.core_readers.CoreReaders.{CoreReaders}
 use Rattle.seg_open.specs.OpenedFields.{IsPlaceOpened}
 use Rattle.seg_open.specs.OpeningSteps.{HaveInfos, HaveTotals}
 use Rattle.seg_open.proofs.OpeningStages.{there}
@@ -44,54 +47,67 @@ record IsOpenAt (entry : FieldEntry) (field documents : ℕ) (terms postings pos
   is : IsOpened entry field documents terms postings positions opened
 
 -- the total of each open field is told
-pub open_totals : (files : SegmentFiles) (s : OpenSegment) → TermsAreOpen s.schema s.documents files.terms files.postings files.positions s.fields → HaveTotals s.fields files.postings
-open_totals files s t field opened at =
-    let p = there s.schema s.fields field (Some opened) (sym t.opened.per_field) at in
-    let is : IsOpened p.value field s.documents t.term_parts t.posting_parts t.position_parts opened = (t.opened.each field p.value (Some opened) p.at at).1 in
+pub open_totals : (schema : Schema) (documents : ℕ) (files : SegmentFiles) (fields : List (Option OpenField)) → TermsAreOpen schema documents files.terms files.postings files.positions fields → HaveTotals fields files.postings
+open_totals schema documents files fields t field opened at =
+    let p = there schema fields field (Some opened) (sym t.opened.per_field) at in
+    let is : IsOpened p.value field documents t.term_parts t.posting_parts t.position_parts opened = (t.opened.each field p.value (Some opened) p.at at).1 in
     ap (λ (o : Option (List Part)). option_map (λ (part : List ℕ). u64_at part 0) (option_and_then (λ (parts : List Part). field_of parts field) o)) t.posting_file.file
     ∙ ap (option_map (λ (part : List ℕ). u64_at part 0)) is.in_postings
     ∙ ap (λ (n : ℕ). Some n) is.by.spells.counted
 
 -- and its infos are those of its dictionary
-pub open_infos : (files : SegmentFiles) (s : OpenSegment)
-    → TermsAreOpen s.schema s.documents files.terms files.postings files.positions s.fields
-    → HaveInfos s.fields files.terms
-open_infos files s t field opened at =
-    let p = there s.schema s.fields field (Some opened) (sym t.opened.per_field) at in
-    let is : IsOpened p.value field s.documents t.term_parts t.posting_parts t.position_parts opened =
+pub open_infos : (schema : Schema) (documents : ℕ) (files : SegmentFiles) (fields : List (Option OpenField))
+    → TermsAreOpen schema documents files.terms files.postings files.positions fields
+    → HaveInfos fields files.terms
+open_infos schema documents files fields t field opened at =
+    let p = there schema fields field (Some opened) (sym t.opened.per_field) at in
+    let is : IsOpened p.value field documents t.term_parts t.posting_parts t.position_parts opened =
     (t.opened.each field p.value (Some opened) p.at at).1 in
     ap (λ (o : Option (List Part)). option_map terms_of (option_and_then (λ (ps : List Part). field_of ps field) o))
     t.term_file.file
     ∙ ap (option_map terms_of) is.in_terms
     ∙ ap (λ (ts : List Term). Some ts) (sym is.infos)
 
-module _ (law : TermsReadHaveShape) (files : SegmentFiles) (s : OpenSegment) (has : IsOpen files s) where
-  t : TermsAreOpen s.schema s.documents files.terms files.postings files.positions s.fields
+module _ (law : TermsReadHaveShape) (schema : Schema) (documents : ℕ) (files : SegmentFiles) (readers : CoreReaders)
+    (has : AreOpen schema documents files readers) where
+  abbrev fields : List (Option OpenField)
+  fields = readers.fields.items
+
+  abbrev columns : ColumnFile
+  columns = readers.fast_fields.file
+
+  abbrev contents : Contents
+  contents = contents_in schema documents fields readers.store readers.norms columns
+
+  columns_is : columns ≡ column_file_of files.fast_fields
+  columns_is = ap (λ (f : FastFields). f.file) has.columns_are
+
+  t : TermsAreOpen schema documents files.terms files.postings files.positions fields
   t = has.terms
 
-  indexed_at : (field : ℕ) (entry : FieldEntry) → slice_get s.schema field ≡ Some entry → is_indexed entry ≡ true → IsOpenAt entry field s.documents t.term_parts t.posting_parts t.position_parts s.fields
+  indexed_at : (field : ℕ) (entry : FieldEntry) → slice_get schema field ≡ Some entry → is_indexed entry ≡ true → IsOpenAt entry field documents t.term_parts t.posting_parts t.position_parts fields
   indexed_at field entry at on =
-      let p = there s.fields s.schema field entry t.opened.per_field at in
+      let p = there fields schema field entry t.opened.per_field at in
       by p.value p.at (t.opened.each field entry p.value at p.at)
     where
-      by : (o : Option OpenField) → slice_get s.fields field ≡ Some o → IsPlaceOpened entry field s.documents t.term_parts t.posting_parts t.position_parts o → IsOpenAt entry field s.documents t.term_parts t.posting_parts t.position_parts s.fields
+      by : (o : Option OpenField) → slice_get fields field ≡ Some o → IsPlaceOpened entry field documents t.term_parts t.posting_parts t.position_parts o → IsOpenAt entry field documents t.term_parts t.posting_parts t.position_parts fields
       by None found is = absurd (false≢true (sym is ∙ on))
       by (Some f) found is = record { opened = f; at = found; is = is.1 }
 
-  unindexed_at : (field : ℕ) (entry : FieldEntry) → slice_get s.schema field ≡ Some entry → is_indexed entry ≡ false → slice_get s.fields field ≡ Some None
+  unindexed_at : (field : ℕ) (entry : FieldEntry) → slice_get schema field ≡ Some entry → is_indexed entry ≡ false → slice_get fields field ≡ Some None
   unindexed_at field entry at off =
-      let p = there s.fields s.schema field entry t.opened.per_field at in
+      let p = there fields schema field entry t.opened.per_field at in
       by p.value p.at (t.opened.each field entry p.value at p.at)
     where
-      by : (o : Option OpenField) → slice_get s.fields field ≡ Some o → IsPlaceOpened entry field s.documents t.term_parts t.posting_parts t.position_parts o → slice_get s.fields field ≡ Some None
+      by : (o : Option OpenField) → slice_get fields field ≡ Some o → IsPlaceOpened entry field documents t.term_parts t.posting_parts t.position_parts o → slice_get fields field ≡ Some None
       by None found is = found
       by (Some f) found is = absurd (false≢true (sym off ∙ is.0))
 
-  holds_field : (field : ℕ) (entry : FieldEntry) → slice_get s.schema field ≡ Some entry → is_indexed entry ≡ true → HoldsField entry field t.term_parts t.posting_parts t.position_parts (slice_index_or (map terms_in s.fields) field empty)
+  holds_field : (field : ℕ) (entry : FieldEntry) → slice_get schema field ≡ Some entry → is_indexed entry ≡ true → HoldsField entry field t.term_parts t.posting_parts t.position_parts (slice_index_or (map terms_in fields) field empty)
   holds_field field entry at on =
       let o = indexed_at field entry at on in
-      let shape = law entry s.documents o.is.dictionary o.is.postings_part o.is.positions_part o.opened.total (written_terms o.opened) o.is.by in
-      subst (HoldsField entry field t.term_parts t.posting_parts t.position_parts) (sym (terms_at_place s.fields field (Some o.opened) o.at)) (record {
+      let shape = law entry documents o.is.dictionary o.is.postings_part o.is.positions_part o.opened.total (written_terms o.opened) o.is.by in
+      subst (HoldsField entry field t.term_parts t.posting_parts t.position_parts) (sym (terms_at_place fields field (Some o.opened) o.at)) (record {
         dictionary = o.is.dictionary;
         postings_part = o.is.postings_part;
         positions_part = o.is.positions_part;
@@ -105,35 +121,37 @@ module _ (law : TermsReadHaveShape) (files : SegmentFiles) (s : OpenSegment) (ha
         are = shape.are;
       })
 
-  has_terms : (field : ℕ) (entry : FieldEntry) → slice_get s.schema field ≡ Some entry → is_indexed entry ≡ true → (term : List ℕ) (postings : List Posting) → get (slice_index_or (map terms_in s.fields) field empty) term ≡ Some postings → IsTermWith entry s.documents term postings
+  has_terms : (field : ℕ) (entry : FieldEntry) → slice_get schema field ≡ Some entry → is_indexed entry ≡ true → (term : List ℕ) (postings : List Posting) → get (slice_index_or (map terms_in fields) field empty) term ≡ Some postings → IsTermWith entry documents term postings
   has_terms field entry at on term postings found =
       let o = indexed_at field entry at on in
-      let shape = law entry s.documents o.is.dictionary o.is.postings_part o.is.positions_part o.opened.total (written_terms o.opened) o.is.by in
-      shape.shape term postings (ap (λ (m : Terms). get m term) (sym (terms_at_place s.fields field (Some o.opened) o.at)) ∙ found)
+      let shape = law entry documents o.is.dictionary o.is.postings_part o.is.positions_part o.opened.total (written_terms o.opened) o.is.by in
+      shape.shape term postings (ap (λ (m : Terms). get m term) (sym (terms_at_place fields field (Some o.opened) o.at)) ∙ found)
 
-  has_none : (field : ℕ) (entry : FieldEntry) → slice_get s.schema field ≡ Some entry → is_indexed entry ≡ false → (term : List ℕ) → get (slice_index_or (map terms_in s.fields) field empty) term ≡ None
+  has_none : (field : ℕ) (entry : FieldEntry) → slice_get schema field ≡ Some entry → is_indexed entry ≡ false → (term : List ℕ) → get (slice_index_or (map terms_in fields) field empty) term ≡ None
   has_none field entry at off term =
-      ap (λ (m : Terms). get m term) (terms_at_place s.fields field None (unindexed_at field entry at off)) ∙ get-empty (slice_cmp nat_cmp) term
+      ap (λ (m : Terms). get m term) (terms_at_place fields field None (unindexed_at field entry at off)) ∙ get-empty (slice_cmp nat_cmp) term
 
-  suit : SuitColumns s.schema s.documents (columns_in s.columns)
-  suit = subst (λ (f : ColumnFile). SuitColumns s.schema s.documents (columns_in f)) (sym has.columns_are) has.columns.suit
+  suit : SuitColumns schema documents (columns_in columns)
+  suit = subst (λ (f : ColumnFile). SuitColumns schema documents (columns_in f)) (sym columns_is) has.columns.suit
 
-  shaped : HasFullShape s.schema (contents_of s)
-  shaped = record {
-    terms_per_field = length-map s.fields terms_in ∙ t.opened.per_field;
+  -- the contents have full shape
+  pub open_shape : HasFullShape schema contents
+  open_shape = record {
+    terms_per_field = length-map fields terms_in ∙ t.opened.per_field;
     terms = has_terms;
     no_terms = has_none;
-    stored = has.stored;
-    norms_per_field = has.fit.are.per_field;
-    norms = has.fit.are.norms_are;
-    no_norms = has.fit.are.no_norms;
+    stored = has.store.2;
+    norms_per_field = has.norms.1.are.per_field;
+    norms = has.norms.1.are.norms_are;
+    no_norms = has.norms.1.are.no_norms;
     declared = suit.declared;
     free = suit.free;
     rows = suit.rows;
     one_number_type = suit.one_number_type;
   }
 
-  pub open_spells : Spell s.schema files (contents_of s)
+  -- and the files spell them
+  pub open_spells : Spell schema files contents
   open_spells = record {
     hold_terms = record {
       term_parts = t.term_parts;
@@ -147,9 +165,9 @@ module _ (law : TermsReadHaveShape) (files : SegmentFiles) (s : OpenSegment) (ha
       position_fields = t.position_file.fields;
       each = λ field entry at on. holds_field field entry at on;
     };
-    norm_parts = has.norms ∙ ap (λ (p : List Part). Some p) has.fit.parts_are;
-    stored = ap (option_map documents_of) has.store;
-    stored_fields = has.stored_fields;
-    columns = record { file = has.columns.file; rows = has.columns.rows; are = ap columns_in (sym has.columns_are) };
-    shape = shaped;
+    norm_parts = has.norms.0 ∙ ap (λ (p : List Part). Some p) has.norms.1.parts_are;
+    stored = ap (option_map documents_of) has.store.0;
+    stored_fields = has.store.1;
+    columns = record { file = has.columns.file; rows = has.columns.rows; are = ap columns_in (sym columns_is) };
+    shape = open_shape;
   }

@@ -1,6 +1,6 @@
 -- What the opening of segments says of the directory, and of what was opened.
 use Rattle.std.proofs.Common.{◌≡◌, ◌⊎◌, ◌∙◌, ℕ, Bool, true, false, List, [], ◌∷◌, ◌++◌, Option, Some, None, Result, Ok, Err, refl, sym, ap, subst, inl, inr, arith}
-use Rattle.std.specs.Prelude.{IfErr, IsTrue, replicate, is_some, if◌then◌else◌}
+use Rattle.std.specs.Prelude.{IfErr, IfSome, IsTrue, replicate, is_some, if◌then◌else◌}
 use Rattle.std.specs.FinMap.{get}
 use Rattle.std.specs.List.{AllByRecursion}
 use Rattle.std.proofs.lemmas.Bool.{false≢true}
@@ -26,12 +26,12 @@ use Rattle.seg_segment.specs.IndexForms.{segment_forms}
 use Rattle.seg_segment.specs.FileContents.{Holds}
 use Rattle.seg_segment.specs.AliveFiles.{HoldsAlive, HoldsMarks}
 use Rattle.seg_segment.specs.SegmentFiles.{HasFiles}
-use Rattle.seg_segment.specs.SegmentReadSteps.{IsNoDamage, IsReadError}
-use Rattle.seg_segment.proofs.Exports.{FindWhole, FindsDamage, OnlyReads, Unchanged, found_whole, is_there, reads_both, reads_rose, reads_so, reads_stay, suits_both, whole_both, same_state, then_same}
+use Rattle.seg_segment.specs.ReadErrors.{IsNoDamage, IsReadError}
+use Rattle.seg_segment.proofs.Exports.{FindWhole, FindsDamage, OnlyReads, Unchanged, found_whole, reads_both, reads_rose, reads_so, reads_stay, suits_both, whole_both, same_state, then_same}
 use Rattle.seg_open.specs.OpenSegment.{OpenSegment, contents_of}
 use Rattle.seg_open.specs.OpeningSteps.{AreFound, AreReadersOf, Asked, Found, HaveTotals, IsFound, IsReaderOf, Opens, OpensSegments, alive_in, alive_read, alive_steps, all_steps, open_steps, segment_steps}
 use Rattle.seg_open.proofs.AliveFileReads.{agrees, is_set, undamaged}
-use Rattle.seg_open.proofs.OpeningReads.{open_has, open_only, open_whole}
+use Rattle.seg_open.proofs.OpeningReads.{is_there, open_has, open_only, open_whole}
 
 -- ---- the steps of one segment
 
@@ -44,10 +44,10 @@ alive_only : (id documents : ℕ) (deletes : Option Deletes) (bytes : List ℕ)
 alive_only id documents None bytes = tt
 alive_only id documents (Some d) bytes = (damage_found id d.stamp (is_some (alive_in documents d bytes)), tt)
 
-segment_only : (s : SegmentParts) (f : Found) → IsFound s f → OnlyReads (segment_steps s f)
-segment_only s f found =
-    reads_both (open_steps s.meta.id f.files f.refusal) (alive_steps s.meta.id s.meta.documents s.meta.deletes f.alive_file)
-    (open_only s.meta.id s.schema s.meta.documents f.files f.refusal found) (alive_only s.meta.id s.meta.documents s.meta.deletes f.alive_file)
+segment_only : (s : SegmentParts) (f : Found) → OnlyReads (segment_steps s f)
+segment_only s f =
+    reads_both (open_steps s.meta.id f.files f.checks) (alive_steps s.meta.id s.meta.documents s.meta.deletes f.alive_file)
+    (open_only s.meta.id f.files f.checks) (alive_only s.meta.id s.meta.documents s.meta.deletes f.alive_file)
 
 -- a segment of files is whole
 abbrev pub Whole : NamedFiles → Asked → Type 0
@@ -61,25 +61,28 @@ alive_whole files s (Some d) bytes agree =
       is_there _ held.file held.there,
       λ is.
           let same : held.file ≡ bytes = same_Some held.file bytes (sym held.there ∙ is) in
-          (undamaged s.id s.documents d bytes agree.0 (agrees s.documents d bytes agree.0 (ap set_of (sym same) ∙ held.set) held.counted agree.3), tt),
+          let agrees_so = agrees s.documents d bytes agree.0 (ap set_of (sym same) ∙ held.set) held.counted agree.3 in (
+            subst (λ (o : Option TantivyError). IfSome o IsNoDamage) (sym (undamaged s.id s.documents d bytes agree.0 agrees_so)) tt,
+            λ none. tt,
+          ),
     )
 
 segment_whole : (files : NamedFiles) (x : Asked) (f : Found) → IsFound x.segment f → Whole files x → FindWhole files (segment_steps x.segment f)
 segment_whole files x f found whole =
     let s = x.segment in
-    whole_both files (open_steps s.meta.id f.files f.refusal) (alive_steps s.meta.id s.meta.documents s.meta.deletes f.alive_file)
-    (open_whole s.meta.id s.schema s.meta.documents files whole.contents whole.held whole.number f.files f.refusal found)
+    whole_both files (open_steps s.meta.id f.files f.checks) (alive_steps s.meta.id s.meta.documents s.meta.deletes f.alive_file)
+    (open_whole s.meta.id f.files f.checks s.schema s.meta.documents files whole.contents whole.held whole.number found)
     (λ suits. alive_whole files s.meta s.meta.deletes f.alive_file whole.deletes_agree)
 
 module _ (x : Asked) (f : Found) (found : IsFound x.segment f) (a b : DirectoryState) where
   one_stays : {T : Type 0} (r : Result T TantivyError) → Works {T = T} (segment_steps x.segment f) r a b → Unchanged a b
-  one_stays r works = reads_stay (segment_only x.segment f found) works
+  one_stays r works = reads_stay (segment_only x.segment f) works
 
   one_so : (T : Type 0) (e : TantivyError) → Works {T = T} (segment_steps x.segment f) (Err e) a b → IsReadError e
-  one_so T e works = reads_so {T = T} (segment_only x.segment f found) works
+  one_so T e works = reads_so {T = T} (segment_only x.segment f) works
 
   one_rose : (T : Type 0) → Works {T = T} (segment_steps x.segment f) (Err OpenReadError) a b → Rose a.faults b.faults
-  one_rose T works = reads_rose (segment_only x.segment f found) works
+  one_rose T works = reads_rose (segment_only x.segment f) works
 
   one_undamaged : (T : Type 0) (e : TantivyError) → Whole a.files x → IsTrue a.tells → Works {T = T} (segment_steps x.segment f) (Err e) a b → IsNoDamage e
   one_undamaged T e whole told works = found_whole told (segment_whole a.files x f found whole) works
@@ -121,13 +124,13 @@ module _ (files : NamedFiles) (x : Asked) (f : Found) (s : OpenSegment) (found :
   abbrev id : ℕ
   id = x.segment.meta.id
 
-  both : AllSuit (open_steps id f.files f.refusal) files × AllSuit (alive_steps id x.segment.meta.documents x.segment.meta.deletes f.alive_file) files
+  both : AllSuit (open_steps id f.files f.checks) files × AllSuit (alive_steps id x.segment.meta.documents x.segment.meta.deletes f.alive_file) files
   both =
-      suits_both (open_steps id f.files f.refusal) (alive_steps id x.segment.meta.documents x.segment.meta.deletes f.alive_file) files
-      (open_only id x.segment.schema x.segment.meta.documents f.files f.refusal found) suits
+      suits_both (open_steps id f.files f.checks) (alive_steps id x.segment.meta.documents x.segment.meta.deletes f.alive_file) files
+      (open_only id f.files f.checks) suits
 
   six : HasFiles files id f.files
-  six = open_has id x.segment.schema x.segment.meta.documents files f.files f.refusal both.0
+  six = open_has id f.files f.checks files both.0
 
   one_held : IsHeld files x s
   one_held = record {
@@ -147,21 +150,21 @@ module _ (files : NamedFiles) (x : Asked) (f : Found) (s : OpenSegment) (found :
 module _ (x : Asked) (a b : DirectoryState) where
   -- no file changes, and faults never fall
   pub opens_stay : (r : Result OpenSegment TantivyError) → Opens x r a b → Unchanged a b
-  opens_stay r h = one_stays x h.found h.damaged a b r h.works
+  opens_stay r h = one_stays x h.found h.checked a b r h.works
 
   -- with which errors it ends
   pub opens_so : (e : TantivyError) → Opens x (Err e) a b → IsReadError e
-  opens_so e h = one_so x h.found h.damaged a b OpenSegment e h.works
+  opens_so e h = one_so x h.found h.checked a b OpenSegment e h.works
 
   -- a failed reading was counted
   pub opens_rose : Opens x (Err OpenReadError) a b → Rose a.faults b.faults
-  opens_rose h = one_rose x h.found h.damaged a b OpenSegment h.works
+  opens_rose h = one_rose x h.found h.checked a b OpenSegment h.works
 
   pub opens_of_schema : (s : OpenSegment) → Opens x (Ok s) a b → IsOf x s
   opens_of_schema s h = one_of x h.found s h.is
 
   pub opens_held : (s : OpenSegment) → IsTrue a.tells → Opens x (Ok s) a b → IsHeld a.files x s
-  opens_held s told h = one_held a.files x h.found s h.damaged h.is ((all_went h.works).suits told)
+  opens_held s told h = one_held a.files x h.found s h.checked h.is ((all_went h.works).suits told)
 
   -- also of the files as they are then
   pub opens_holds : (s : OpenSegment) → IsTrue a.tells → Opens x (Ok s) a b → Holds b.files x.segment.meta.id x.segment.schema (contents_of s)
@@ -169,11 +172,11 @@ module _ (x : Asked) (a b : DirectoryState) where
       subst (λ (files : NamedFiles). Holds files x.segment.meta.id x.segment.schema (contents_of s)) (sym (opens_stay (Ok s) h).files) (opens_held s told h).contents
 
   pub opens_totals : (s : OpenSegment) → IsTrue a.tells → Opens x (Ok s) a b → AreTold a.files x s
-  opens_totals s told h = one_told a.files x h.found s h.damaged h.is ((all_went h.works).suits told)
+  opens_totals s told h = one_told a.files x h.found s h.checked h.is ((all_went h.works).suits told)
 
   -- a whole segment is not found damaged
   pub opens_undamaged : (e : TantivyError) → Whole a.files x → IsTrue a.tells → Opens x (Err e) a b → IsNoDamage e
-  opens_undamaged e whole told h = one_undamaged x h.found h.damaged a b OpenSegment e whole told h.works
+  opens_undamaged e whole told h = one_undamaged x h.found h.checked a b OpenSegment e whole told h.works
 
 -- ---- segments, by the steps of each
 
@@ -281,21 +284,21 @@ module _ (files : NamedFiles) where
   each_by P one (x ∷ asked) [] opened found are suits = absurd are
   each_by P one (x ∷ asked) (f ∷ fs) [] found are suits = absurd are
   each_by P one (x ∷ asked) (f ∷ fs) (s ∷ opened) found are suits =
-      let both = suits_both (segment_steps x.segment f) (all_steps asked fs) files (segment_only x.segment f found.0) suits in
+      let both = suits_both (segment_steps x.segment f) (all_steps asked fs) files (segment_only x.segment f) suits in
       (one x f s found.0 are.0 both.0, each_by P one asked fs opened found.1 are.1 both.1)
 
 module _ (asked : List Asked) (a b : DirectoryState) where
   -- no file changes, and faults never fall
   pub segments_stay : (r : Result (List OpenSegment) TantivyError) → OpensSegments asked r a b → Unchanged a b
-  segments_stay r h = all_stay (List OpenSegment) asked h.found h.damaged r a b h.works
+  segments_stay r h = all_stay (List OpenSegment) asked h.found h.checked r a b h.works
 
   -- with which errors they end
   pub segments_so : (e : TantivyError) → OpensSegments asked (Err e) a b → IsReadError e
-  segments_so e h = all_read (List OpenSegment) asked h.found h.damaged (Err e) a b h.works
+  segments_so e h = all_read (List OpenSegment) asked h.found h.checked (Err e) a b h.works
 
   -- a failed reading was counted
   pub segments_rose : OpensSegments asked (Err OpenReadError) a b → Rose a.faults b.faults
-  segments_rose h = all_rose (List OpenSegment) asked h.found h.damaged (Err OpenReadError) a b h.works refl
+  segments_rose h = all_rose (List OpenSegment) asked h.found h.checked (Err OpenReadError) a b h.works refl
 
   pub segments_of_schema : (opened : List OpenSegment) → OpensSegments asked (Ok opened) a b → EachRead IsOf asked opened
   segments_of_schema opened h = each_of asked h.found opened h.are
@@ -304,16 +307,16 @@ module _ (asked : List Asked) (a b : DirectoryState) where
       → EachRead (IsHeld a.files) asked opened
   segments_held opened told h =
       each_by a.files (IsHeld a.files) (λ x f s found is suits. one_held a.files x f s found is suits)
-      asked h.found opened h.damaged h.are ((all_went h.works).suits told)
+      asked h.found opened h.checked h.are ((all_went h.works).suits told)
 
   pub segments_totals : (opened : List OpenSegment) → IsTrue a.tells → OpensSegments asked (Ok opened) a b
       → EachRead (AreTold a.files) asked opened
   segments_totals opened told h =
       each_by a.files (AreTold a.files) (λ x f s found is suits. one_told a.files x f s found is suits)
-      asked h.found opened h.damaged h.are ((all_went h.works).suits told)
+      asked h.found opened h.checked h.are ((all_went h.works).suits told)
 
   -- whole segments are not found damaged
   pub segments_undamaged : (e : TantivyError) → AllByRecursion (Whole a.files) asked → IsTrue a.tells → OpensSegments asked (Err e) a b
       → IsNoDamage e
   segments_undamaged e whole told h =
-      all_undamaged (List OpenSegment) asked h.found h.damaged (Err e) a b whole told h.works
+      all_undamaged (List OpenSegment) asked h.found h.checked (Err e) a b whole told h.works

@@ -15,7 +15,7 @@ use Rattle.seg_meta.specs.Metas.{SegmentParts}
 use Rattle.seg_model.specs.Input.{Filter}
 use Rattle.seg_model.specs.Operations.{filtered_by}
 use Rattle.seg_open.specs.OpenSegment.{OpenSegment}
-use Rattle.seg_open.specs.OpeningSteps.{AreFound, AreReadersOf, Asked, FilterFits, FiltersFit, Found, HasFilesOf, Opens, OpensFiles, OpensSegments, ReadsAlive, all_steps, asked_of, segment_steps}
+use Rattle.seg_open.specs.OpeningSteps.{AreFound, AreReadersOf, Asked, FilterFits, FiltersFit, Found, HasFilesOf, IsFound, Opens, OpensFiles, OpensSegments, ReadsAlive, all_steps, asked_of, segment_steps, unfinished}
 
 -- ---- steps that end in another way
 
@@ -27,7 +27,7 @@ fails_on T U (step ∷ steps) e a b (inl w) = inl (w.0, w.1, fails_on T U steps 
 fails_on T U (step ∷ steps) e a b (inr broke) = inr broke
 
 -- steps that broke off, whatever is answered where none does
-fails_as : {T U : Type 0} {steps : List Step} {e : TantivyError} {a b : DirectoryState}
+pub fails_as : {T U : Type 0} {steps : List Step} {e : TantivyError} {a b : DirectoryState}
     → Works {T = T} steps (Err e) a b → Works {T = U} steps (Err e) a b
 fails_as works = record { on = fails_on _ _ _ _ _ _ works.on }
 
@@ -55,22 +55,29 @@ answers_as : {T U : Type 0} {steps : List Step} {x : T} (y : U) {a b : Directory
     → Works {T = T} steps (Ok x) a b → Works {T = U} steps (Ok y) a b
 answers_as y works = record { on = answers_on _ _ _ _ y _ _ works.on }
 
--- nothing is found
+-- nothing is read
 abbrev nothing : Found
-nothing = record { files = record { terms = []; store = []; postings = []; positions = []; fast_fields = []; field_norms = [] }; refusal = None; alive_file = [] }
+nothing = record {
+  files = record { terms = []; store = []; postings = []; positions = []; fast_fields = []; field_norms = [] };
+  checks = λ c. unfinished;
+  alive_file = [];
+}
+
+none_checked : (s : SegmentParts) → IsFound s nothing
+none_checked s = (tt, (tt, (tt, (tt, (tt, (tt, tt))))))
 
 -- ---- one segment
 
 module _ (x : Asked) where
   -- there is no memory before the first file
   pub starves : (a : DirectoryState) → Opens x (Err OutOfMemory) a a
-  starves a = record { found = nothing; damaged = tt; works = does_nothing (segment_steps x.segment nothing); is = tt }
+  starves a = record { found = nothing; checked = none_checked x.segment; works = does_nothing (segment_steps x.segment nothing); is = tt }
 
   -- its six files aren't read
   pub stops_in_files : (e : TantivyError) (a b : DirectoryState) → OpensFiles x.segment (Err e) a b → Opens x (Err e) a b
   stops_in_files e a b h = record {
-    found = record { files = h.files; refusal = h.refusal; alive_file = [] };
-    damaged = h.damaged;
+    found = record { files = h.files; checks = h.checks; alive_file = [] };
+    checked = h.checked;
     works = stops _ h.works;
     is = tt;
   }
@@ -90,8 +97,8 @@ module _ (x : Asked) where
       pub stops_in_alive : (e : TantivyError) → ReadsAlive id documents deletes (Err e) b c → Opens x (Err e) a c
       stops_in_alive e h = let n = alive (Err e) b c h in
           record {
-            found = record { files = six.files; refusal = six.refusal; alive_file = n.bytes };
-            damaged = six.damaged;
+            found = record { files = six.files; checks = six.checks; alive_file = n.bytes };
+            checked = six.checked;
             works = then_does six.works (fails_as n.works);
             is = tt;
           }
@@ -101,8 +108,8 @@ module _ (x : Asked) where
         pub stops_after_alive : Opens x (Err OutOfMemory) a c
         stops_after_alive = let n = alive (Ok marks) b c h in
             record {
-              found = record { files = six.files; refusal = six.refusal; alive_file = n.bytes };
-              damaged = six.damaged;
+              found = record { files = six.files; checks = six.checks; alive_file = n.bytes };
+              checked = six.checked;
               works = then_does six.works (starves_after n.works);
               is = tt;
             }
@@ -111,8 +118,8 @@ module _ (x : Asked) where
         pub opens : (s : OpenSegment) → HasFilesOf x.segment six.files s → s.alive ≡ filtered_by x.custom marks → Opens x (Ok s) a c
         opens s has cut = let n = alive (Ok marks) b c h in
             record {
-              found = record { files = six.files; refusal = six.refusal; alive_file = n.bytes };
-              damaged = six.damaged;
+              found = record { files = six.files; checks = six.checks; alive_file = n.bytes };
+              checked = six.checked;
               works = then_does six.works (answers_as s n.works);
               is = record { has = has; marks = marks; marked = n.is; alive = cut };
             }
@@ -133,9 +140,13 @@ with_marks segment r marks a b six = record {
 
 -- ---- one after another
 
-none_found : (asked : List Asked) → AreFound asked (map (λ s. nothing) asked)
+-- nothing is read of any
+abbrev nothing_of : List Asked → List Found
+nothing_of asked = map (λ x. nothing) asked
+
+none_found : (asked : List Asked) → AreFound asked (nothing_of asked)
 none_found [] = tt
-none_found (x ∷ asked) = (tt, none_found asked)
+none_found (x ∷ asked) = (none_checked x.segment, none_found asked)
 
 steps_more : (xs ys : List Asked) (fs gs : List Found) → AreFound xs fs
     → all_steps (xs ++ ys) (fs ++ gs) ≡ all_steps xs fs ++ all_steps ys gs
@@ -160,31 +171,35 @@ readers_more (x ∷ xs) ys [] gs rs ss h k l = absurd h
 readers_more (x ∷ xs) ys (f ∷ fs) gs [] ss h k l = absurd k
 readers_more (x ∷ xs) ys (f ∷ fs) gs (r ∷ rs) ss h k l = (k.0, readers_more xs ys fs gs rs ss h.1 k.1 l)
 
+-- there is no memory before the first segment
+pub starves_all : (asked : List Asked) (a : DirectoryState) → OpensSegments asked (Err OutOfMemory) a a
+starves_all asked a = record { found = nothing_of asked; checked = none_found asked; works = does_nothing _; are = tt }
+
 -- none is open yet
 pub none_yet : (opened : List OpenSegment) (a : DirectoryState) → opened ≡ [] → OpensSegments [] (Ok opened) a a
 none_yet opened a none =
-    subst (λ (l : List OpenSegment). OpensSegments [] (Ok l) a a) (sym none) (record { found = []; damaged = tt; works = record { on = (refl, tt) }; are = tt })
+    subst (λ (l : List OpenSegment). OpensSegments [] (Ok l) a a) (sym none) (record { found = []; checked = tt; works = record { on = (refl, tt) }; are = tt })
 
 module _ (first : List Asked) (x : Asked) (opened : List OpenSegment) (a b c : DirectoryState)
     (before : OpensSegments first (Ok opened) a b) where
   opens_more : (s : OpenSegment) → Opens x (Ok s) b c → OpensSegments (first ++ x ∷ []) (Ok (opened ++ s ∷ [])) a c
   opens_more s here = record {
     found = before.found ++ here.found ∷ [];
-    damaged = found_more first (x ∷ []) before.found (here.found ∷ []) before.damaged (here.damaged, tt);
+    checked = found_more first (x ∷ []) before.found (here.found ∷ []) before.checked (here.checked, tt);
     works =
-        subst (λ l. Works {T = List OpenSegment} l (Ok (opened ++ s ∷ [])) a c) (sym (steps_more first (x ∷ []) before.found (here.found ∷ []) before.damaged))
+        subst (λ l. Works {T = List OpenSegment} l (Ok (opened ++ s ∷ [])) a c) (sym (steps_more first (x ∷ []) before.found (here.found ∷ []) before.checked))
         (then_does before.works (then_does here.works (record { on = (refl, tt) })));
-    are = readers_more first (x ∷ []) before.found (here.found ∷ []) opened (s ∷ []) before.damaged before.are (here.is, tt);
+    are = readers_more first (x ∷ []) before.found (here.found ∷ []) opened (s ∷ []) before.checked before.are (here.is, tt);
   }
 
   stops_more : (rest : List Asked) (e : TantivyError) → Opens x (Err e) b c → OpensSegments (first ++ x ∷ rest) (Err e) a c
   stops_more rest e here = record {
-    found = before.found ++ here.found ∷ map (λ s. nothing) rest;
-    damaged =
-        found_more first (x ∷ rest) before.found (here.found ∷ map (λ s. nothing) rest) before.damaged (here.damaged, none_found rest);
+    found = before.found ++ here.found ∷ nothing_of rest;
+    checked =
+        found_more first (x ∷ rest) before.found (here.found ∷ nothing_of rest) before.checked (here.checked, none_found rest);
     works =
-        subst (λ l. Works {T = List OpenSegment} l (Err e) a c) (sym (steps_more first (x ∷ rest) before.found (here.found ∷ map (λ s. nothing) rest) before.damaged))
-        (then_does before.works (stops (all_steps rest (map (λ s. nothing) rest)) here.works));
+        subst (λ l. Works {T = List OpenSegment} l (Err e) a c) (sym (steps_more first (x ∷ rest) before.found (here.found ∷ nothing_of rest) before.checked))
+        (then_does before.works (stops (all_steps rest (nothing_of rest)) here.works));
     are = tt;
   }
 

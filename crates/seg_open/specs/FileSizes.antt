@@ -13,3 +13,7 @@ sizes_of files = record {
   fast_fields = length files.fast_fields;
   field_norms = length files.field_norms;
 }
+
+-- those of no files
+abbrev pub no_sizes : FileSizes
+no_sizes = record { terms = 0; store = 0; postings = 0; positions = 0; fast_fields = 0; field_norms = 0 }

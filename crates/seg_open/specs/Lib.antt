@@ -3,6 +3,7 @@ pub mod Answers
 pub mod Disagreement
 pub mod FacetColumns
 pub mod FieldParts
+pub mod FileReads
 pub mod FileSizes
 pub mod IndexedParts
 pub mod OpenSegment

@@ -16,18 +16,18 @@ use Rattle.seg_model.specs.Operations.{filtered_by}
 use Rattle.seg_meta.specs.IndexOfFiles.{Deletes}
 use Rattle.seg_meta.specs.Metas.{SegmentParts}
 use Rattle.seg_postings.specs.OpenedFields.{OpenField, dictionary_terms}
-use Rattle.seg_segment.specs.SegmentReadSteps.{read_steps}
+use Rattle.seg_segment.specs.SegmentFiles.{bytes_of, read_order}
 use Rattle.seg_segment.specs.SpelledContents.{Spell}
 use Rattle.seg_segment.specs.TokenTotals.{token_total}
 use Rattle.seg_segment.specs.declared.segment_files.SegmentFiles.{SegmentFiles}
-use Rattle.seg_open.specs.Disagreement.{Disagree, read_before}
+use Rattle.seg_open.specs.Disagreement.{Disagree}
 use Rattle.seg_open.specs.FieldParts.{dictionary_in}
 use Rattle.seg_open.specs.FileSizes.{sizes_of}
 use Rattle.seg_open.specs.OpenSegment.{OpenSegment, alive_of, contents_of}
 use Rattle.seg_open.specs.SoundFiles.{IsSound}
 use Rattle.seg_open.specs.declared.open_error.OpenError.{OpenError}
 use Rattle.seg_open.specs.declared.open_error.OpenError.TheVariants as open_error
-pub use Rattle.seg_segment.specs.SegmentReadSteps.{IsNoDamage, IsReadError}
+pub use Rattle.seg_segment.specs.ReadErrors.{IsNoDamage, IsReadError}
 
 -- ---- the six files
 
@@ -36,18 +36,44 @@ abbrev pub error_of : ℕ → OpenError → TantivyError
 error_of id (open_error.Damaged component) = DataCorruption (Part id component)
 error_of id open_error.OutOfMemory = OutOfMemory
 
--- an error tells that the file of a component is damaged: whatever those after it are, the files spell no contents of
--- this many documents; and each before it is sound
-pub record IsDamageOf (id : ℕ) (schema : Schema) (documents : ℕ) (files : SegmentFiles)
-    (e : TantivyError) : Type 0 where
-  pub component : SegmentComponent
-  pub told : e ≡ DataCorruption (Part id component)
-  pub disagree : Disagree schema documents files component
-  pub first : AllByRecursion (IsSound schema documents files) (read_before component)
+-- how the check of a file ends: it is sound, or damaged; or memory runs out, and neither is known
+pub data Check : Type 0 where
+  sound : Check
+  damaged : Check
+  unfinished : Check
 
--- the six files of an id are read, and then they are tested
-abbrev pub open_steps : ℕ → SegmentFiles → Option TantivyError → List Step
-open_steps id files refusal = read_steps id files ++ passes refusal ∷ []
+-- what is told then
+abbrev pub refusal_of : ℕ → SegmentComponent → Check → Option TantivyError
+refusal_of id component sound = None
+refusal_of id component damaged = Some (DataCorruption (Part id component))
+refusal_of id component unfinished = Some OutOfMemory
+
+-- a file is checked together with those that are read before it: it is sound; or it is damaged, so that whatever those
+-- after it are, the files spell no contents of this many documents
+abbrev pub IsChecked : Schema → ℕ → SegmentFiles → SegmentComponent → Check → Type 0
+IsChecked schema documents files component sound = IsSound schema documents files component
+IsChecked schema documents files component damaged = Disagree schema documents files component
+IsChecked schema documents files component unfinished = Unit {0}
+
+-- each of the six files is
+abbrev pub AreChecked : Schema → ℕ → SegmentFiles → (SegmentComponent → Check) → Type 0
+AreChecked schema documents files checks =
+    AllByRecursion (λ c. IsChecked schema documents files c (checks c)) read_order
+
+-- a file is read, and then it is checked
+abbrev pub check_steps : ℕ → SegmentComponent → List ℕ → Check → List Step
+check_steps id component bytes check =
+    calls (read (Part id component) bytes) ∷ passes (refusal_of id component check) ∷ []
+
+-- so are the files of components in turn: a file is read once those before it are found sound
+abbrev pub file_steps : ℕ → SegmentFiles → (SegmentComponent → Check) → List SegmentComponent → List Step
+file_steps id files checks [] = []
+file_steps id files checks (c ∷ components) =
+    check_steps id c (bytes_of files c) (checks c) ++ file_steps id files checks components
+
+-- and the six files of an id
+abbrev pub open_steps : ℕ → SegmentFiles → (SegmentComponent → Check) → List Step
+open_steps id files checks = file_steps id files checks read_order
 
 -- ---- the alive file
 
@@ -96,21 +122,21 @@ pub record Asked : Type 0 where
   pub segment : SegmentParts
   pub custom : Option Filter
 
--- what is found of it: its six files, what their test tells, and its alive file
+-- what is found of it: its six files, how the check of each ends, and its alive file
 pub record Found : Type 0 where
   pub files : SegmentFiles
-  pub refusal : Option TantivyError
+  pub checks : SegmentComponent → Check
   pub alive_file : List ℕ
 
--- its six files are read and tested, and then its alive file is
+-- its six files are read and checked, one after another, and then its alive file is
 abbrev pub segment_steps : SegmentParts → Found → List Step
 segment_steps s found =
-    open_steps s.meta.id found.files found.refusal
+    open_steps s.meta.id found.files found.checks
     ++ alive_steps s.meta.id s.meta.documents s.meta.deletes found.alive_file
 
--- what the test of its files tells is damage of them
+-- its files are as their checks say
 abbrev pub IsFound : SegmentParts → Found → Type 0
-IsFound s found = IfSome found.refusal (IsDamageOf s.meta.id s.schema s.meta.documents found.files)
+IsFound s found = AreChecked s.schema s.meta.documents found.files found.checks
 
 -- the total of each open field is that which the file of postings tells
 abbrev pub HaveTotals : List (Option OpenField) → List ℕ → Type 0
@@ -139,9 +165,9 @@ pub record HasFilesOf (segment : SegmentParts) (files : SegmentFiles) (s : OpenS
 pub record OpensFiles (segment : SegmentParts) (result : Result OpenSegment TantivyError)
     (before after : DirectoryState) : Type 0 where
   pub files : SegmentFiles
-  pub refusal : Option TantivyError
-  pub works : Works (open_steps segment.meta.id files refusal) result before after
-  pub damaged : IfSome refusal (IsDamageOf segment.meta.id segment.schema segment.meta.documents files)
+  pub checks : SegmentComponent → Check
+  pub checked : AreChecked segment.schema segment.meta.documents files checks
+  pub works : Works (open_steps segment.meta.id files checks) result before after
   pub is : IfOk result (HasFilesOf segment files)
 
 -- a reader has what was found of a segment: what its files spell, and of its documents those alive that are asked for
@@ -154,7 +180,7 @@ pub record IsReaderOf (a : Asked) (found : Found) (s : OpenSegment) : Type 0 whe
 -- a segment is opened, whatever its files are found to be
 pub record Opens (a : Asked) (result : Result OpenSegment TantivyError) (before after : DirectoryState) : Type 0 where
   pub found : Found
-  pub damaged : IsFound a.segment found
+  pub checked : IsFound a.segment found
   pub works : Works (segment_steps a.segment found) result before after
   pub is : IfOk result (IsReaderOf a found)
 
@@ -202,7 +228,7 @@ AreReadersOf (a ∷ asked) (f ∷ found) (s ∷ opened) = IsReaderOf a f s × Ar
 pub record OpensSegments (asked : List Asked) (result : Result (List OpenSegment) TantivyError)
     (before after : DirectoryState) : Type 0 where
   pub found : List Found
-  pub damaged : AreFound asked found
+  pub checked : AreFound asked found
   pub works : Works (all_steps asked found) result before after
   pub are : IfOk result (AreReadersOf asked found)
 

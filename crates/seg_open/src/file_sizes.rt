@@ -1,6 +1,6 @@
 //! The sizes of the six files of a segment.
 ghost use Rattle.std.specs.Prelude.{◌≡◌};
-ghost use Rattle.seg_open.specs.FileSizes.{sizes_of};
+ghost use Rattle.seg_open.specs.FileSizes.{no_sizes, sizes_of};
 
 use seg_segment::SegmentFiles;
 
@@ -16,6 +16,20 @@ pub struct FileSizes {
 }
 
 impl FileSizes {
+    /// Those of no files yet.
+    pub(crate) fn none() -> FileSizes
+        ensures { result ≡ no_sizes }
+    {
+        FileSizes {
+            terms: 0,
+            store: 0,
+            postings: 0,
+            positions: 0,
+            fast_fields: 0,
+            field_norms: 0,
+        }
+    }
+
     pub(crate) fn of(files: &SegmentFiles) -> FileSizes
         ensures { result ≡ sizes_of files.now }
     {

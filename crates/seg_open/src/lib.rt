@@ -1,6 +1,6 @@
 //! Segments as they are read from a directory: a segment is opened by its six files, each read once, whole, and checked
-//! against those before it, and by its alive file. What is asked of it later is looked up in these bytes. The first
-//! file that is missing, or else the first that is wrong, is the one that the error names.
+//! against those before it before the next is read, and by its alive file. What is asked of it later is looked up in
+//! these bytes. The first file that is missing or wrong is the one that the error names.
 //!
 //! Its model: a reader is an `OpenSegment`: the contents that its files hold (`contents_of`), and for each document
 //! whether it is alive.
@@ -29,8 +29,9 @@ mod opened_fields;
 mod opened_postings;
 mod term_files;
 
-// The other three, and the alive file.
+// The other three, all six, and the alive file.
 mod alive_set;
+mod core_readers;
 mod opened_parts;
 
 // A segment that is open, and what it has.

@@ -1,11 +1,9 @@
 //! The store, the columns and the length ids of a segment, each checked against its number of documents.
 ghost use Rattle.std.specs.Prelude.{◌≡◌, ◌≢◌, ℕ, List, length, true, false, Some, None, MatchOption, MatchResult};
 ghost use Rattle.seg_column_file.specs.ColumnFiles.{column_file_of};
+ghost use Rattle.seg_open.specs.OpenedFiles.{NormsOpened, NormsUnopened, StoreOpened, StoreUnopened};
 ghost use Rattle.seg_open.specs.OpenedTermFiles.{IsTold};
 ghost use Rattle.seg_column_format.specs.SchemaColumns.{HoldColumns};
-ghost use Rattle.seg_directory.specs.CompositeFiles.{composite};
-ghost use Rattle.seg_norms.specs.FieldNorms.{norms_parts};
-ghost use Rattle.seg_norms.specs.StoredNorms.{norms_of, AreNorms, HoldNorms};
 ghost use Rattle.seg_store.specs.Block.{Block};
 ghost use Rattle.seg_store.specs.Store.{store_of, documents_of};
 ghost use Rattle.seg_store.specs.StoredFields.{have_stored_fields};
@@ -37,6 +35,21 @@ pub(crate) fn open_store(bytes: OwnedBytes, schema: &Schema, max_doc: u32) -> Op
     Some(store)
 }
 
+/// The same, or that the file of the store is damaged.
+pub(crate) fn checked_store(
+    bytes: OwnedBytes,
+    schema: &Schema,
+    max_doc: u32,
+) -> Result<StoreReader, OpenError>
+    ensures { MatchResult result (StoreOpened schema.now max_doc bytes)
+        (IsTold SegmentComponent.Store (StoreUnopened schema.now max_doc bytes)) }
+{
+    match open_store(bytes, schema, max_doc) {
+        Some(store) => Ok(store),
+        None => Err(OpenError::Damaged(SegmentComponent::Store)),
+    }
+}
+
 /// The columns of this many documents in the fields of a schema, where the bytes are these.
 pub(crate) fn open_fast_fields(
     alloc: Global,
@@ -61,17 +74,15 @@ pub(crate) fn open_norms(
     bytes: OwnedBytes,
     schema: &Schema,
     max_doc: u32,
-) -> Option<FieldNormReaders>
-    ensures { MatchOption result
-        ((norms : List (List ℕ)) → AreNorms schema.now max_doc norms
-        → composite bytes ≢ Some (norms_parts schema.now norms))
-        (λ r. (composite bytes ≡ Some r) × HoldNorms schema.now max_doc r (norms_of schema.now r)) }
+) -> Result<FieldNormReaders, OpenError>
+    ensures { MatchResult result (NormsOpened schema.now max_doc bytes)
+        (IsTold SegmentComponent.FieldNorms (NormsUnopened schema.now max_doc bytes)) }
 {
     let Ok(norms) = FieldNormReaders::open(bytes) else {
-        return None;
+        return Err(OpenError::Damaged(SegmentComponent::FieldNorms));
     };
     if !norms.fit(schema, max_doc) {
-        return None;
+        return Err(OpenError::Damaged(SegmentComponent::FieldNorms));
     }
-    Some(norms)
+    Ok(norms)
 }

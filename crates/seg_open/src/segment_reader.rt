@@ -7,17 +7,16 @@ ghost use Rattle.seg_segment.specs.IndexForms.{segment_forms};
 ghost use Rattle.seg_segment.specs.FileContents.{Holds};
 ghost use Rattle.seg_open.specs.Disagreement.{IsWhyNotOpen};
 ghost use Rattle.seg_open.specs.OpenSegment.{LacksSome, alive_of, contents_of};
+ghost use Rattle.seg_open.specs.OpenedFiles.{AreOpen};
 ghost use Rattle.seg_open.specs.OpeningSteps.{HasFilesOf, IsNoDamage, Opens, OpensFiles};
+ghost use Rattle.seg_segment.specs.declared.segment_files.SegmentFiles.{SegmentFiles};
 
 use crate::alive_set::{cut_by, read_deletes};
+use crate::core_readers::CoreReaders;
 use crate::file_sizes::FileSizes;
 use crate::open_error::OpenError;
-use crate::opened_dictionaries::open_dictionaries;
-use crate::opened_fields::open_fields;
-use crate::opened_parts::{open_fast_fields, open_norms, open_store};
-use crate::opened_postings::open_postings;
 use seg_bits::AliveBitSet;
-use seg_common::{SegmentComponent, SegmentId, Shared};
+use seg_common::{SegmentId, Shared};
 use seg_directory::Directory;
 use seg_fastfield::FastFieldReaders;
 use seg_meta::Segment;
@@ -78,9 +77,9 @@ impl Model for SegmentReader {
 
 impl SegmentReader {
     /// Opens a segment of a directory: reads its six files and then, where it has deletes, its alive file, each once,
-    /// in the order terms, store, postings, positions, fast fields, field norms, alive. Once the six are read, each is
-    /// checked whole and against those before it. `DataCorruption` names the first that is missing, or else the first
-    /// that is wrong by itself or with those before it. `OpenReadError`: a file can't be read. What a crash may leave
+    /// in the order terms, store, postings, positions, fast fields, field norms, alive. Each is checked whole, and
+    /// against those before it, before the next is read. `DataCorruption` names the first that is missing, or wrong by
+    /// itself or with those before it, which are sound. `OpenReadError`: a file can't be read. What a crash may leave
     /// of the directory stays.
     pub fn open<W: Directory>(
         alloc: Global,
@@ -136,7 +135,7 @@ impl SegmentReader {
         }
     }
 
-    /// Reads the six files, and opens them. All documents count as alive yet.
+    /// Reads and opens the six files. All documents count as alive yet.
     fn read_files<W: Directory>(
         alloc: Global,
         segment: &Segment,
@@ -145,13 +144,10 @@ impl SegmentReader {
         ensures { OpensFiles segment.now result (W.state directory.old) (W.state directory.new) }
     {
         let id = segment.id();
-        let files = match SegmentFiles::read(alloc, id, directory) {
-            Ok(files) => files,
-            Err(e) => return Err(e),
-        };
-        match SegmentReader::open_files(alloc, segment, files) {
-            Ok(reader) => Ok(reader),
-            Err(e) => Err(e.of_segment(id)),
+        let max_doc = segment.meta().max_doc();
+        match CoreReaders::read(alloc, id, segment.schema(), max_doc, directory) {
+            Ok(readers) => Ok(SegmentReader::of_readers(alloc, segment, readers)),
+            Err(e) => Err(e),
         }
     }
 
@@ -165,41 +161,41 @@ impl SegmentReader {
         ensures ok { IfOk result (HasFilesOf segment.now files) }
         ensures err { IfErr result (IsWhyNotOpen segment.now.schema segment.now.meta.documents files) }
     {
-        terms_read_have_shape();
-        let sizes = FileSizes::of(&files);
-        let schema = segment.schema().share();
         let max_doc = segment.meta().max_doc();
-        let SegmentFiles {
-            terms,
+        match CoreReaders::open(alloc, files, segment.schema(), max_doc) {
+            Ok(readers) => Ok(SegmentReader::of_readers(alloc, segment, readers)),
+            Err(e) => Err(e),
+        }
+    }
+
+    /// A segment with the readers of its files. All its documents count as alive.
+    fn of_readers(alloc: Global, segment: &Segment, readers: CoreReaders) -> SegmentReader
+        requires { (files : SegmentFiles)
+            × AreOpen segment.now.schema segment.now.meta.documents files readers }
+        ensures { (files : SegmentFiles) → AreOpen segment.now.schema segment.now.meta.documents files readers
+            → HasFilesOf segment.now files result }
+    {
+        terms_read_have_shape();
+        let CoreReaders {
+            fields,
             store,
-            postings,
-            positions,
             fast_fields,
-            field_norms,
-        } = files;
-        let dictionaries = open_dictionaries(alloc, terms, &schema, max_doc)?;
-        let Some(store) = open_store(store, &schema, max_doc) else {
-            return Err(OpenError::Damaged(SegmentComponent::Store));
-        };
-        let both = open_postings(alloc, postings, &schema, dictionaries)?;
-        let fields = open_fields(alloc, positions, &schema, both)?;
-        let columns = open_fast_fields(alloc, fast_fields, &schema, max_doc)?;
-        let Some(norms) = open_norms(field_norms, &schema, max_doc) else {
-            return Err(OpenError::Damaged(SegmentComponent::FieldNorms));
-        };
-        Ok(SegmentReader {
+            norms,
+            sizes,
+        } = readers;
+        SegmentReader {
             alloc,
             id: segment.id(),
-            schema,
-            max_doc,
+            schema: segment.schema().share(),
+            max_doc: segment.meta().max_doc(),
             fields,
             store,
             norms,
-            fast_fields: columns,
+            fast_fields,
             alive: None,
             delete_opstamp: segment.meta().delete_opstamp(),
             sizes,
-        })
+        }
     }
 
     /// The same segment, of which these documents are alive; all where no set is given.

@@ -5,7 +5,6 @@ pub use Rattle.seg_segment.proofs.GivenPostings.{AreGiven, all_given, given_more
 pub use Rattle.seg_segment.proofs.KeptFiles.{after_keeps, all_touched, keeps_untouched}
 pub use Rattle.seg_segment.proofs.ListTails.{drop-item, entry_at}
 pub use Rattle.seg_segment.proofs.MadeFiles.{absent_suit, are_made, newest, others_stay, six_there}
-pub use Rattle.seg_segment.proofs.ReadFiles.{has_read, is_there, only_six, six_whole}
 pub use Rattle.seg_segment.proofs.ReadOnlySteps.{FindWhole, FindsDamage, OnlyReads, Unchanged, found_whole, reads_both, reads_rose, reads_so, reads_stay, rose_before, same_state, suits_both, then_same, whole_both}
 pub use Rattle.seg_segment.proofs.ReadTerms.{pair_of, term_of}
 pub use Rattle.seg_segment.proofs.SameErrors.{failing, same_error}

@@ -7,11 +7,9 @@ mod LaidOutFiles
 mod LengthSequences
 mod ListTails
 mod MadeFiles
-mod ReadFiles
 mod ReadOnlySteps
 mod ReadTerms
 mod SameErrors
-mod SegmentReads
 mod SpelledFiles
 mod TokenTotals
 mod UniqueContents

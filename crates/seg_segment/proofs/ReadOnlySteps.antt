@@ -1,6 +1,6 @@
 -- Steps that only read files, and test what was read.
 use Rattle.std.proofs.Common.{◌≡◌, ◌≤◌, ◌∙◌, ℕ, List, [], ◌∷◌, ◌++◌, Result, Ok, Err, IsTrue, refl, Option, Some, None, inl, inr, sym, ap, subst, arith}
-use Rattle.std.specs.Prelude.{IsSome}
+use Rattle.std.specs.Prelude.{IfSome, IsSome}
 use Rattle.std.specs.FinMap.{get}
 use Rattle.seg_common.specs.FaultCounts.{Rose}
 use Rattle.seg_common.specs.declared.name.FileName.{FileName}
@@ -12,13 +12,14 @@ use Rattle.seg_directory.specs.Files.{NamedFiles}
 use Rattle.seg_directory.specs.DirectoryStates.{DirectoryState}
 use Rattle.seg_directory.specs.DirectorySteps.{Step, calls, passes, StepGoes, StepBreaks, CallBreaks, failed, has_files, Works, AllSuit}
 use Rattle.seg_directory.specs.declared.error.DirectoryError.TheVariants as directory
-use Rattle.seg_segment.specs.SegmentReadSteps.{IsNoDamage, IsReadError}
+use Rattle.seg_segment.specs.ReadErrors.{IsNoDamage, IsReadError}
 
 -- ---- such steps
 
--- a test finds nothing, or damage
+-- a test finds nothing, or damage, or memory runs out in it
 abbrev pub FindsDamage : Option TantivyError → Type 0
 FindsDamage (Some (DataCorruption name)) = Unit {0}
+FindsDamage (Some OutOfMemory) = Unit {0}
 FindsDamage (Some e) = ⊥
 FindsDamage None = Unit {0}
 
@@ -99,7 +100,7 @@ damage_read OpenWriteError h = absurd h
 damage_read IoError h = absurd h
 damage_read SystemError h = absurd h
 damage_read FieldNotFound h = absurd h
-damage_read OutOfMemory h = absurd h
+damage_read OutOfMemory h = tt
 
 breaks_so : (name : FileName) (bytes : List ℕ) (e : TantivyError) (a b : DirectoryState) → CallBreaks (read name bytes) e a b → IsReadError e
 breaks_so name bytes e a b (failed directory.Fault is fails) = subst IsReadError (sym is) tt
@@ -154,7 +155,7 @@ reads_rose only works = on_rose _ _ _ _ _ only refl works.on
 
 -- ---- whole files
 
--- each file is there, and where the files are as they are read each test passes
+-- each file is there, and where the files are as they are read no test finds damage
 abbrev pub FindWhole : NamedFiles → List Step → Type 0
 FindWhole files [] = Unit {0}
 FindWhole files (calls (read name bytes) ∷ steps) = IsSome (get files name) × (get files name ≡ Some bytes → FindWhole files steps)
@@ -162,7 +163,7 @@ FindWhole files (calls (listed n) ∷ steps) = ⊥
 FindWhole files (calls (made name bytes) ∷ steps) = ⊥
 FindWhole files (calls (replaced name bytes) ∷ steps) = ⊥
 FindWhole files (calls synced ∷ steps) = ⊥
-FindWhole files (passes refusal ∷ steps) = (refusal ≡ None) × FindWhole files steps
+FindWhole files (passes refusal ∷ steps) = IfSome refusal IsNoDamage × (refusal ≡ None → FindWhole files steps)
 
 -- and so do more, where those before them suit
 pub whole_both : (files : NamedFiles) (xs ys : List Step) → FindWhole files xs → (AllSuit xs files → FindWhole files ys) → FindWhole files (xs ++ ys)
@@ -172,7 +173,7 @@ whole_both files (calls (listed n) ∷ xs) ys h k = absurd h
 whole_both files (calls (made name bytes) ∷ xs) ys h k = absurd h
 whole_both files (calls (replaced name bytes) ∷ xs) ys h k = absurd h
 whole_both files (calls synced ∷ xs) ys h k = absurd h
-whole_both files (passes refusal ∷ xs) ys h k = (h.0, whole_both files xs ys h.1 (λ suits. k (h.0, suits)))
+whole_both files (passes refusal ∷ xs) ys h k = (h.0, λ none. whole_both files xs ys (h.1 none) (λ suits. k (none, suits)))
 
 none_there : (o : Option (List ℕ)) → IsSome o → o ≡ None → ⊥
 none_there o some none = cc (subst IsSome none some)
@@ -199,9 +200,9 @@ on_whole T (calls (read name bytes) ∷ steps) e a b told whole (inr (inl starve
 on_whole T (calls (read name bytes) ∷ steps) e a b told whole (inr (inr breaks)) = breaks_whole name bytes e a b told whole.0 breaks
 on_whole T (passes refusal ∷ steps) e a b told whole (inl w) =
     let same = same_state a w.0 w.1.1 in
-    on_whole T steps e w.0 b (still_tells a w.0 same.tells told) (subst (λ (fs : NamedFiles). FindWhole fs steps) (sym same.files) whole.1) w.2
+    on_whole T steps e w.0 b (still_tells a w.0 same.tells told) (subst (λ (fs : NamedFiles). FindWhole fs steps) (sym same.files) (whole.1 w.1.0)) w.2
 on_whole T (passes refusal ∷ steps) e a b told whole (inr (inl starved)) = subst IsNoDamage (sym starved.0) tt
-on_whole T (passes refusal ∷ steps) e a b told whole (inr (inr breaks)) = absurd (cc (sym breaks.0 ∙ whole.0))
+on_whole T (passes refusal ∷ steps) e a b told whole (inr (inr breaks)) = subst (λ (o : Option TantivyError). IfSome o IsNoDamage) breaks.0 whole.0
 
 -- whole files are not found damaged
 pub found_whole : {T : Type 0} {steps : List Step} {e : TantivyError} {a b : DirectoryState} → IsTrue a.tells → FindWhole a.files steps → Works {T = T} steps (Err e) a b → IsNoDamage e

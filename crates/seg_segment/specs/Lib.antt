@@ -5,8 +5,8 @@ pub mod IndexForms
 pub mod Laws
 pub mod LentComponents
 pub mod MadeFiles
+pub mod ReadErrors
 pub mod SegmentFiles
-pub mod SegmentReadSteps
 pub mod SegmentSerializers
 pub mod SpelledContents
 pub mod TermFiles

@@ -1,6 +1,5 @@
 //! The six files of a segment: terms, postings, positions, stored documents, fast fields and field norms. Their bytes
-//! are made here whether documents are indexed or segments are merged, are written to a directory under an id, and are
-//! read back.
+//! are made here whether documents are indexed or segments are merged, and are written to a directory under an id.
 //!
 //! Its model: the bytes of six files spell contents (`Spell`), and at most one (`files_spell_one_contents`); a
 //! directory holds contents under an id where it has six files that spell them (`Holds`), and a serializer is what each
@@ -11,11 +10,10 @@
 //! let norms = write_lengths(alloc, &schema, &lengths)?;
 //! let serializer = SegmentSerializer::from_parts(alloc, segment, postings, store, fast, norms);
 //! serializer.close(&mut directory)?;
-//! let files = SegmentFiles::read(alloc, id, &mut directory)?;
 //! ```
 //!
 //! `terms` and `lengths` are what has the terms and the lengths of each field (`TermsByField`, `LengthsByField`),
-//! `store` is a `StoreWriter`, and `fast` the bytes of the columns. `files` has what `close` made.
+//! `store` is a `StoreWriter`, and `fast` the bytes of the columns.
 #![tactic(auto)]
 
 // The terms and the lengths of the fields, written field by field.

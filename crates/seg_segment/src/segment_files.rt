@@ -1,16 +1,14 @@
-//! The six files of a segment, as they are read or were just made.
+//! The six files of a segment, as they were just made.
 ghost use Rattle.std.specs.Prelude.{◌≡◌, IfOk};
-ghost use Rattle.seg_common.specs.declared.name.FileName.{FileName};
-ghost use Rattle.seg_directory.specs.DirectorySteps.{Works, WorksFor};
+ghost use Rattle.seg_directory.specs.DirectorySteps.{Works};
 ghost use Rattle.seg_segment.specs.MadeFiles.{AreOfParts};
 ghost use Rattle.seg_segment.specs.SegmentFiles.{bytes_of, write_steps};
-ghost use Rattle.seg_segment.specs.SegmentReadSteps.{first_of, first_steps, read_steps, rest_steps};
 
 use crate::component_files::write_components;
-use seg_common::{FileName, OwnedBytes, SegmentComponent, SegmentId};
-use seg_directory::{Directory, read_file};
+use seg_common::{OwnedBytes, SegmentComponent, SegmentId};
+use seg_directory::Directory;
 use seg_postings::PostingsFiles;
-use seg_values::{TResult, TantivyError};
+use seg_values::TResult;
 use std::alloc::{AllocError, Global};
 
 /// The most documents of a segment.
@@ -27,93 +25,7 @@ pub struct SegmentFiles {
     pub field_norms: OwnedBytes,
 }
 
-/// The three files that are read first.
-#[derive(Drop)]
-struct FirstFiles {
-    terms: OwnedBytes,
-    store: OwnedBytes,
-    postings: OwnedBytes,
-}
-
-impl FirstFiles {
-    fn read<W: Directory>(alloc: Global, id: SegmentId, directory: &mut W) -> TResult<FirstFiles>
-        ensures { WorksFor (first_steps id) result (W.state directory.old) (W.state directory.new) }
-    {
-        let terms = read_file(
-            alloc,
-            directory,
-            FileName::Part(id, SegmentComponent::Terms),
-        )?;
-        let store = read_file(
-            alloc,
-            directory,
-            FileName::Part(id, SegmentComponent::Store),
-        )?;
-        let postings = read_file(
-            alloc,
-            directory,
-            FileName::Part(id, SegmentComponent::Postings),
-        )?;
-        Ok(FirstFiles {
-            terms,
-            store,
-            postings,
-        })
-    }
-
-    /// Reads the three others.
-    fn with_rest<W: Directory>(
-        self,
-        alloc: Global,
-        id: SegmentId,
-        directory: &mut W,
-    ) -> TResult<SegmentFiles>
-        ensures does { WorksFor (rest_steps id) result (W.state directory.old) (W.state directory.new) }
-        ensures first { IfOk result (λ files. first_of files ≡ self) }
-    {
-        let positions = read_file(
-            alloc,
-            directory,
-            FileName::Part(id, SegmentComponent::Positions),
-        )?;
-        let fast_fields = read_file(
-            alloc,
-            directory,
-            FileName::Part(id, SegmentComponent::FastFields),
-        )?;
-        let field_norms = read_file(
-            alloc,
-            directory,
-            FileName::Part(id, SegmentComponent::FieldNorms),
-        )?;
-        Ok(SegmentFiles {
-            terms: self.terms,
-            store: self.store,
-            postings: self.postings,
-            positions,
-            fast_fields,
-            field_norms,
-        })
-    }
-}
-
 impl SegmentFiles {
-    /// Reads the files of an id, each once, in the order terms, store, postings, positions, fast fields, field norms.
-    /// The first that is missing ends it.
-    pub fn read<W: Directory>(
-        alloc: Global,
-        id: SegmentId,
-        directory: &mut W,
-    ) -> TResult<SegmentFiles>
-        ensures { WorksFor (read_steps id) result (W.state directory.old) (W.state directory.new) }
-    {
-        let first = match FirstFiles::read(alloc, id, directory) {
-            Ok(first) => first,
-            Err(e) => return Err(e),
-        };
-        first.with_rest(alloc, id, directory)
-    }
-
     /// The files of a segment that was just made, whose bytes aren't copied.
     pub fn from_parts(
         alloc: Global,

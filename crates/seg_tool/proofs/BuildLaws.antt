@@ -14,7 +14,7 @@ use Rattle.seg_model.specs.Input.{Input}
 use Rattle.seg_model.specs.Refusals.{IfRefusal, build_refusal}
 use Rattle.seg_model.specs.ValidInputs.{Known, input_refusal}
 use Rattle.seg_segment.specs.Laws.{HoldsOneContents}
-use Rattle.seg_segment.specs.SegmentReadSteps.{IsNoDamage, IsReadError}
+use Rattle.seg_segment.specs.ReadErrors.{IsNoDamage, IsReadError}
 use Rattle.seg_index_build.specs.BuildOutcomes.{IsWhyUntold, AreEmpty}
 use Rattle.seg_index_build.specs.IndexFiles.{IsMergedIndexOf, IsOutputIndexOf, IsWorkIndexOf}
 use Rattle.seg_index_build.specs.TwoDirectories.{Directories, goes_on, stops}

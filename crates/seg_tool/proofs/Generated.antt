@@ -10,7 +10,7 @@ use Rattle.seg_model.specs.Laws.{ValidInputsAreNotRefused}
 use Rattle.seg_model.specs.Refusals.{IfRefusal, build_refusal}
 use Rattle.seg_model.specs.ValidInputs.{IsValid, Known, input_refusal}
 use Rattle.seg_segment.specs.Laws.{HoldsOneContents}
-use Rattle.seg_segment.specs.SegmentReadSteps.{IsNoDamage}
+use Rattle.seg_segment.specs.ReadErrors.{IsNoDamage}
 use Rattle.seg_index_build.specs.BuildOutcomes.{IsWhyUntold}
 use Rattle.seg_index_build.specs.TwoDirectories.{Directories}
 use Rattle.seg_index_build.proofs.Exports.{IsBuildError, RoseIn}

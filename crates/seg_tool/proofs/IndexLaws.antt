@@ -1,6 +1,6 @@
 -- What the printing of an index says of its directory, and of what it prints.
 use Rattle.std.proofs.Common.{◌≡◌, ◌≤◌, ◌∙◌, ℕ, Bool, true, false, List, [], ◌∷◌, ◌++◌, Option, Some, None, Result, Ok, Err, IsTrue, refl, sym, ap, subst, map, arith}
-use Rattle.std.specs.Prelude.{IsSome, is_some, if◌then◌else◌}
+use Rattle.std.specs.Prelude.{IfSome, IsSome, is_some, if◌then◌else◌}
 use Rattle.std.specs.FinMap.{get}
 use Rattle.std.specs.List.{AllByRecursion}
 use Rattle.std.specs.Option.{option_and_then}
@@ -23,7 +23,7 @@ use Rattle.seg_meta.specs.declared.index_meta.IndexMeta.{IndexMeta}
 use Rattle.seg_model.specs.Fields.{Schema}
 use Rattle.seg_segment.specs.IndexForms.{segment_forms}
 use Rattle.seg_segment.specs.AliveFiles.{HoldsMarks}
-use Rattle.seg_segment.specs.SegmentReadSteps.{IsNoDamage, IsReadError}
+use Rattle.seg_segment.specs.ReadErrors.{IsNoDamage, IsReadError}
 use Rattle.seg_segment.proofs.Exports.{FindWhole, FindsDamage, OnlyReads, Unchanged, found_whole, reads_rose, reads_so, reads_stay, then_same}
 use Rattle.seg_open.specs.OpenSegment.{OpenSegment}
 use Rattle.seg_open.specs.OpeningSteps.{Asked, OpensSegments}
@@ -51,14 +51,14 @@ is_there : (o : Option (List ℕ)) (meta : Meta) → option_and_then meta_read o
 is_there None meta is = absurd (cc is)
 is_there (Some bytes) meta is = refl
 
-no_damage : (o : Option Meta) (meta : Meta) → o ≡ Some meta → (if is_some o then None else Some (DataCorruption name.Meta)) ≡ None
+no_damage : (o : Option Meta) (meta : Meta) → o ≡ Some meta → IfSome (if is_some o then None else Some (DataCorruption name.Meta)) IsNoDamage
 no_damage None meta is = absurd (cc is)
-no_damage (Some m) meta is = refl
+no_damage (Some m) meta is = tt
 
 load_whole : (files : NamedFiles) (meta : Meta) (bytes : List ℕ) → index.index_of segment_forms files ≡ Some meta → FindWhole files (load_steps bytes)
 load_whole files meta bytes is = (
   is_there (get files name.Meta) meta is,
-  λ there. (no_damage (meta_read bytes) meta (sym (ap (option_and_then meta_read) there) ∙ is), tt),
+  λ there. (no_damage (meta_read bytes) meta (sym (ap (option_and_then meta_read) there) ∙ is), λ none. tt),
 )
 
 module _ (a b : DirectoryState) where

@@ -22,7 +22,7 @@ use Rattle.seg_model.specs.Fields.{Schema}
 use Rattle.seg_segment.specs.IndexForms.{segment_forms}
 use Rattle.seg_segment.specs.FileContents.{Holds}
 use Rattle.seg_segment.specs.Laws.{HoldsOneContents}
-use Rattle.seg_segment.specs.SegmentReadSteps.{IsNoDamage, IsReadError}
+use Rattle.seg_segment.specs.ReadErrors.{IsNoDamage, IsReadError}
 use Rattle.seg_segment.proofs.Exports.{Unchanged}
 use Rattle.seg_open.specs.OpenSegment.{OpenSegment, contents_of, kept_count}
 use Rattle.seg_index_build.specs.IndexFiles.{undeleted}

@@ -19,7 +19,7 @@ use Rattle.seg_meta.specs.declared.index_meta.IndexMeta.{IndexMeta}
 use Rattle.seg_model.specs.Fields.{Schema}
 use Rattle.seg_model.specs.ValidInputs.{settings_fit}
 use Rattle.seg_segment.specs.IndexForms.{segment_forms}
-use Rattle.seg_segment.specs.SegmentReadSteps.{IsNoDamage, IsReadError}
+use Rattle.seg_segment.specs.ReadErrors.{IsNoDamage, IsReadError}
 use Rattle.seg_segment.proofs.Exports.{Unchanged, rose_before, failing, same_error}
 use Rattle.seg_merger.specs.Merger.{all_fit}
 use Rattle.seg_open.specs.OpenSegment.{OpenSegment}

@@ -14,8 +14,7 @@ use Rattle.seg_meta.specs.Metas.{SegmentParts}
 use Rattle.seg_meta.specs.declared.index_meta.IndexMeta.{IndexMeta}
 use Rattle.seg_open.specs.OpenSegment.{OpenSegment}
 use Rattle.seg_open.specs.OpeningSteps.{Asked, Opens, OpensSegments, segment_steps}
-use Rattle.seg_open.proofs.Exports.{none_yet, opens_turn, stops_turn, starves_after}
-use Rattle.seg_index_build.proofs.Exports.{starved}
+use Rattle.seg_open.proofs.Exports.{none_yet, opens_turn, starves_after, starves_all, stops_turn}
 use Rattle.seg_tool.specs.Printing.{read_segment_text, read_texts}
 use Rattle.seg_tool.specs.ReadingBack.{PrintsIndex, ReadsText, all_of, all_of_one, fails, loaded, not_loaded, reads}
 use Rattle.seg_tool.specs.declared.words.Detail.{Detail}
@@ -24,7 +23,7 @@ use Rattle.seg_tool.specs.declared.words.Detail.{Detail}
 
 -- once a segment is open
 pub starved_open : (x : Asked) (s : OpenSegment) (a b : DirectoryState) → Opens x (Ok s) a b → Opens x (Err OutOfMemory) a b
-starved_open x s a b h = record { found = h.found; damaged = h.damaged; works = starves_after h.works; is = tt }
+starved_open x s a b h = record { found = h.found; checked = h.checked; works = starves_after h.works; is = tt }
 
 -- ---- one segment more
 
@@ -87,7 +86,7 @@ all_printed front label detail segments i text a b done so =
 module _ (front label : List ℕ) (detail : Detail) (metas : IndexMeta) (a b : DirectoryState) (load : LoadsMetas (Ok metas) a b) where
   -- there is no memory for the list of its segments
   pub unlisted : PrintsIndex front label detail (Err OutOfMemory) a b
-  unlisted = loaded metas b load (fails OutOfMemory refl (starved (all_of (listed_segments metas)) b))
+  unlisted = loaded metas b load (fails OutOfMemory refl (starves_all (all_of (listed_segments metas)) b))
 
   -- they are printed, or not
   pub listed : (segments : List SegmentParts) (r : Result (List ℕ) TantivyError) (c : DirectoryState) → segments ≡ listed_segments metas

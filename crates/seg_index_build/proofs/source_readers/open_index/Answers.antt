@@ -4,17 +4,17 @@ use Rattle.seg_open.specs.Answers.{seen_as}
 use Rattle.seg_open.specs.OpeningSteps.{FiltersFit}
 use Rattle.seg_index_build.specs.MergedIndices.{asked_of_index, unfiltered}
 use Rattle.seg_index_build.proofs.UnfilteredSegments.{none_fit, opens_as}
-use Rattle.seg_index_build.proofs.SourceTurns.{starved}
+use Rattle.seg_open.proofs.Exports.{starves_all}
 use Rattle.seg_index_build.proofs.source_readers.open_index.Goals as goal
 
 pub returns-in_default : goal.returns-in_default
-returns-in_default g c = starved (asked_of_index c.args.index.now) _
+returns-in_default g c = starves_all (asked_of_index c.args.index.now) _
 
 pub returns-in_default-live_segments : goal.returns-in_default-live_segments
-returns-in_default-live_segments g c = starved (asked_of_index c.args.index.now) _
+returns-in_default-live_segments g c = starves_all (asked_of_index c.args.index.now) _
 
 pub returns-in_default-no_filters : goal.returns-in_default-no_filters
-returns-in_default-no_filters g c = starved (asked_of_index c.args.index.now) _
+returns-in_default-no_filters g c = starves_all (asked_of_index c.args.index.now) _
 
 pub open_segments-requires : goal.open_segments-requires
 open_segments-requires g c =

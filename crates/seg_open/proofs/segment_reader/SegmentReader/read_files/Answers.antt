@@ -1,18 +1,31 @@
-use Rattle.std.proofs.Common.{rules, ◌≡◌}
-use Rattle.seg_open.proofs.OpeningOutcomes.{is_opened, is_unopened, is_unread}
+use Rattle.std.proofs.Common.{rules, ◌≡◌, Err, Ok}
+use Rattle.seg_open.proofs.OpeningOutcomes.{opened, reads_as, unopened}
 use Rattle.seg_open.proofs.segment_reader.SegmentReader.read_files.Goals as goal
 
-pub returns-in-Ok-open_files : goal.returns-in-Ok-open_files
-returns-in-Ok-open_files g c =
-    let id_is : c.id-id.result ≡ c.args.segment.now.meta.id = search rules in
-    is_opened c.args.segment.now _ id_is c.in-Ok.files c.in-Ok.ensures c.in-Ok-open_files.reader c.in-Ok-open_files.ensures.ok
+pub of_readers-requires : goal.of_readers-requires
+of_readers-requires g c =
+    let segment = c.args.segment.now in
+    let id_is : c.id-id.result ≡ segment.meta.id = search rules in
+    let schema_is : c.schema.result.now ≡ segment.schema = search rules in
+    let number_is : c.max_doc-max_doc.result ≡ segment.meta.documents = search rules in
+    let reads = reads_as c.schema.result.now segment.schema _ segment.meta.documents schema_is number_is _ segment.meta.id id_is (Ok c.in-Ok.readers) _ _ c.in-Ok.ensures in
+    (reads.files, reads.is)
 
-pub returns-in-Err-open_files : goal.returns-in-Err-open_files
-returns-in-Err-open_files g c =
-    let id_is : c.id-id.result ≡ c.args.segment.now.meta.id = search rules in
-    is_unopened c.args.segment.now _ id_is c.in-Ok.files c.in-Ok.ensures c.in-Err-open_files.e c.of_segment.result c.of_segment.ensures c.in-Err-open_files.ensures.err
+pub returns-in-Ok : goal.returns-in-Ok
+returns-in-Ok g c =
+    let segment = c.args.segment.now in
+    let id_is : c.id-id.result ≡ segment.meta.id = search rules in
+    let schema_is : c.schema.result.now ≡ segment.schema = search rules in
+    let number_is : c.max_doc-max_doc.result ≡ segment.meta.documents = search rules in
+    opened segment _ _ c.in-Ok.readers c.of_readers.result
+    (reads_as c.schema.result.now segment.schema _ segment.meta.documents schema_is number_is _ segment.meta.id id_is (Ok c.in-Ok.readers) _ _ c.in-Ok.ensures)
+    c.of_readers.ensures
 
 pub returns-in-Err : goal.returns-in-Err
 returns-in-Err g c =
-    let id_is : c.id-id.result ≡ c.args.segment.now.meta.id = search rules in
-    is_unread c.args.segment.now _ id_is c.in-Err.e c.in-Err.ensures
+    let segment = c.args.segment.now in
+    let id_is : c.id-id.result ≡ segment.meta.id = search rules in
+    let schema_is : c.schema.result.now ≡ segment.schema = search rules in
+    let number_is : c.max_doc-max_doc.result ≡ segment.meta.documents = search rules in
+    unopened segment _ _ c.in-Err.e
+    (reads_as c.schema.result.now segment.schema _ segment.meta.documents schema_is number_is _ segment.meta.id id_is (Err c.in-Err.e) _ _ c.in-Err.ensures)
