@@ -1,7 +1,8 @@
 -- What the building of an index comes to, put together of the work index and the merge.
-use Rattle.std.proofs.Common.{◌≡◌, ◌∙◌, ◌<◌, ◌^◌, ℕ, List, length, map, None, Result, Ok, Err, sym, ap, subst}
+use Rattle.std.proofs.Common.{◌≡◌, ◌∙◌, ◌+◌, ◌<◌, ◌^◌, ℕ, List, length, map, None, Result, Ok, Err, sym, ap, subst}
 use Rattle.std.specs.Prelude.{IfOk}
 use Rattle.std.proofs.lemmas.Option.{MatchOption-from_none}
+use Rattle.seg_segment.proofs.Exports.{failing, same_error}
 use Rattle.seg_values.specs.declared.error.TantivyError.{TantivyError}
 use Rattle.seg_values.specs.declared.error.TantivyError.TheVariants.{OutOfMemory}
 use Rattle.seg_directory.specs.DirectoryStates.{DirectoryState}
@@ -37,7 +38,6 @@ use Rattle.seg_index_build.proofs.FilledWorkIndex.{are_merged}
 use Rattle.seg_index_build.proofs.KeptDirectories.{others_kept, refused_leaves}
 use Rattle.seg_index_build.proofs.MergeCalls.{call_is, is_built}
 use Rattle.seg_index_build.proofs.MergeTurns.{starved}
-use Rattle.seg_index_build.proofs.SameErrors.{failing, same_error}
 use Rattle.seg_index_build.proofs.SegmentIds.{ids_many, work_few}
 use Rattle.seg_index_build.proofs.TakenParts.{fits_of}
 use Rattle.seg_index_build.proofs.WritingExits.{Filled, exits, filled_so_far}

@@ -1,5 +1,6 @@
 -- Turns that write both indexes, put together.
 use Rattle.std.proofs.Common.{◌≡◌, Result, Ok, Err, refl, ap}
+use Rattle.seg_segment.proofs.Exports.{failing, same_error}
 use Rattle.seg_values.specs.declared.error.TantivyError.{TantivyError}
 use Rattle.seg_model.specs.Fields.{Analyzer}
 use Rattle.seg_model.specs.Input.{Input}
@@ -9,7 +10,6 @@ use Rattle.seg_index_build.specs.IndexFiles.{work_ids}
 use Rattle.seg_index_build.specs.MergedSegments.{MergesLive}
 use Rattle.seg_index_build.specs.TwoDirectories.{Directories, stops, goes_on}
 use Rattle.seg_index_build.proofs.FilledIndex.{filled_as, filled_fails_as}
-use Rattle.seg_index_build.proofs.SameErrors.{failing, same_error}
 
 module _ (known : Known) (analyzer : Analyzer) (input : Input) where
   -- the work index isn't written, which ends all

@@ -18,36 +18,36 @@ mod schemas;
 mod types;
 mod values;
 
-use crate::failure::Failure;
+use crate::lines::Lines;
 
-pub(crate) fn print_base<R: Print + AllocGlobal>(rt: &R) -> Result<(), Failure> {
-    println!(rt; "# values, documents, dictionaries, the meta, deletes")?;
-    owners::print_owners(rt)?;
-    flat_maps::print_flat_maps(rt)?;
-    print_values(rt)?;
-    print_indices(rt)?;
-    print_further(rt)
+pub(crate) fn add_base(lines: &mut Lines) {
+    lines.add("# values, documents, dictionaries, the meta, deletes");
+    owners::add_owners(lines);
+    flat_maps::add_flat_maps(lines);
+    add_values(lines);
+    add_indices(lines);
+    add_further(lines);
 }
 
-fn print_values<R: Print + AllocGlobal>(rt: &R) -> Result<(), Failure> {
-    values::print_values(rt)?;
-    types::print_types(rt)?;
-    json_values::print_json_values(rt)?;
-    maps::print_maps(rt)?;
-    pieces::print_pieces(rt)?;
-    documents::print_documents(rt)
+fn add_values(lines: &mut Lines) {
+    values::add_values(lines);
+    types::add_types(lines);
+    json_values::add_json_values(lines);
+    maps::add_maps(lines);
+    pieces::add_pieces(lines);
+    documents::add_documents(lines);
 }
 
-fn print_indices<R: Print + AllocGlobal>(rt: &R) -> Result<(), Failure> {
-    dictionaries::print_dictionaries(rt)?;
-    meta::print_meta(rt)?;
-    deletes::print_deletes(rt)
+fn add_indices(lines: &mut Lines) {
+    dictionaries::add_dictionaries(lines);
+    meta::add_meta(lines);
+    deletes::add_deletes(lines);
 }
 
-fn print_further<R: Print + AllocGlobal>(rt: &R) -> Result<(), Failure> {
-    schemas::print_schemas(rt)?;
-    document_lists::print_document_lists(rt)?;
-    copied_fields::print_copied_fields(rt)?;
-    leaves::print_leaves(rt)?;
-    merged_terms::print_merged_terms(rt)
+fn add_further(lines: &mut Lines) {
+    schemas::add_schemas(lines);
+    document_lists::add_document_lists(lines);
+    copied_fields::add_copied_fields(lines);
+    leaves::add_leaves(lines);
+    merged_terms::add_merged_terms(lines);
 }

@@ -11,14 +11,14 @@ mod merges;
 mod texts;
 mod written_files;
 
-use crate::failure::Failure;
+use crate::lines::Lines;
 
-pub(crate) fn print_columns<R: Print + AllocGlobal>(rt: &R) -> Result<(), Failure> {
-    println!(rt; "# columns")?;
-    texts::print_texts(rt)?;
-    files::print_files(rt)?;
-    fast_fields::print_fast_fields(rt)?;
-    written_files::print_writing(rt)?;
-    merges::print_merges(rt)?;
-    fast_field_file::print_fast_writing(rt)
+pub(crate) fn add_columns(lines: &mut Lines) {
+    lines.add("# columns");
+    texts::add_texts(lines);
+    files::add_files(lines);
+    fast_fields::add_fast_fields(lines);
+    written_files::add_written_files(lines);
+    merges::add_merges(lines);
+    fast_field_file::add_fast_field_file(lines);
 }

@@ -2,9 +2,9 @@
 //! program runs: what was called with what, and what came.
 #![tactic(auto)]
 
-// How bytes are printed, and why the program can't end well.
-mod bytes;
+// How lines are put together, and why the program can't end well.
 mod failure;
+mod lines;
 
 // What calls are made with.
 mod samples;
@@ -17,11 +17,22 @@ mod postings;
 mod segments;
 
 use failure::Failure;
+use lines::Lines;
 
 fn main(rt: HostRuntime) -> Result<(), Failure> {
-    base::print_base(&rt)?;
-    postings::print_postings(&rt)?;
-    columns::print_columns(&rt)?;
-    segments::print_segments(&rt)?;
-    merges::print_merges(&rt)
+    let mut lines = Lines::new(rt.alloc());
+    add_groups(&mut lines);
+    rt.write_all(lines.text().as_bytes())?;
+    if lines.lacks_some() {
+        return Err(Failure::LineMissing);
+    }
+    Ok(())
+}
+
+fn add_groups(lines: &mut Lines) {
+    base::add_base(lines);
+    postings::add_postings(lines);
+    columns::add_columns(lines);
+    segments::add_segments(lines);
+    merges::add_merges(lines);
 }

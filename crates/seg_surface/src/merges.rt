@@ -10,14 +10,14 @@ mod sizes;
 mod stacked_blocks;
 mod work_index;
 
-use crate::failure::Failure;
+use crate::lines::Lines;
 
-pub(crate) fn print_merges<R: Print + AllocGlobal>(rt: &R) -> Result<(), Failure> {
-    println!(rt; "# merges")?;
-    described_fields::print_described(rt)?;
-    sizes::print_sizes(rt)?;
-    merged_indices::print_merging(rt)?;
-    stacked_blocks::print_stacking(rt)?;
-    refused_indices::print_refusing(rt)?;
-    known_parts::print_known_parts(rt)
+pub(crate) fn add_merges(lines: &mut Lines) {
+    lines.add("# merges");
+    described_fields::add_described_fields(lines);
+    sizes::add_sizes(lines);
+    merged_indices::add_merged_indices(lines);
+    stacked_blocks::add_stacked_blocks(lines);
+    refused_indices::add_refused_indices(lines);
+    known_parts::add_known_parts(lines);
 }

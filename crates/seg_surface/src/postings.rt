@@ -9,15 +9,15 @@ mod raw_documents;
 mod stores;
 mod written_field;
 
-use crate::failure::Failure;
+use crate::lines::Lines;
 
-pub(crate) fn print_postings<R: Print + AllocGlobal>(rt: &R) -> Result<(), Failure> {
-    println!(rt; "# postings, alive documents, stores")?;
-    written_field::print_writing(rt)?;
-    bit_sets::print_bit_sets(rt)?;
-    alive::print_alive(rt)?;
-    json_spaces::print_json_spaces(rt)?;
-    stores::print_stores(rt)?;
-    frequencies::print_frequencies(rt)?;
-    raw_documents::print_raw_documents(rt)
+pub(crate) fn add_postings(lines: &mut Lines) {
+    lines.add("# postings, alive documents, stores");
+    written_field::add_written_field(lines);
+    bit_sets::add_bit_sets(lines);
+    alive::add_alive(lines);
+    json_spaces::add_json_spaces(lines);
+    stores::add_stores(lines);
+    frequencies::add_frequencies(lines);
+    raw_documents::add_raw_documents(lines);
 }

@@ -3,19 +3,17 @@
 mod columns;
 mod components;
 mod doc_id_mapping;
-mod mapping_types;
 mod reader_answers;
 mod titles;
 mod writer_answers;
 
-use crate::failure::Failure;
+use crate::lines::Lines;
 
-pub(crate) fn print_segments<R: Print + AllocGlobal>(rt: &R) -> Result<(), Failure> {
-    println!(rt; "# segments")?;
-    writer_answers::print_writing(rt)?;
-    reader_answers::print_reading(rt)?;
-    doc_id_mapping::print_joining(rt)?;
-    columns::print_columns(rt)?;
-    mapping_types::print_mapping_types(rt)?;
-    components::print_components(rt)
+pub(crate) fn add_segments(lines: &mut Lines) {
+    lines.add("# segments");
+    writer_answers::add_writer_answers(lines);
+    reader_answers::add_reader_answers(lines);
+    doc_id_mapping::add_doc_id_mapping(lines);
+    columns::add_columns(lines);
+    components::add_components(lines);
 }

@@ -70,7 +70,8 @@ IsLeft analyzer None meant work = HasNoIndex
 
 -- ---- a run
 
--- a crash at any moment of the run, and after it, leaves what the words and the script of the source say; once it is done, the whole
+-- a crash at any moment of the run, and after it, leaves what the words and the script of the source say; once it is
+-- done, the whole
 pub record CrashLeaves (analyzer : Analyzer) (command : Option Command) (left : Option (List ℕ)) (status : Status)
     (before after : Directories) : Type 0 where
   pub meant : Option Input

@@ -42,7 +42,8 @@ AreReadOf files schema [] (s ∷ opened) = ⊥
 AreReadOf files schema (l ∷ listed) [] = ⊥
 AreReadOf files schema (l ∷ listed) (s ∷ opened) = IsReadOf files schema l s × AreReadOf files schema listed opened
 
--- the files have an index, of which these segments were opened, one after another; this is their text, after what was printed before
+-- the files have an index, of which these segments were opened, one after another; this is their text, after what was
+-- printed before
 pub record IsPrinted (front label : List ℕ) (detail : Detail) (files : NamedFiles) (text : List ℕ) : Type 0 where
   pub metas : IndexMeta
   pub is_index : index.index_of segment_forms files ≡ Some (meta_of metas)
@@ -68,8 +69,8 @@ joined_text schema documents contents = segment_text schema (record {
   reading = reading_part contents;
 })
 
--- the work files have an index that lists segments; those that have a live document were opened, and what they join to is held
--- by the one segment of the index that the output files have; this is its text
+-- the work files have an index that lists segments; those that have a live document were opened, and what they join to
+-- is held by the one segment of the index that the output files have; this is its text
 pub record IsJoined (work output : NamedFiles) (text : List ℕ) : Type 0 where
   pub metas : IndexMeta
   pub is_index : index.index_of segment_forms work ≡ Some (meta_of metas)
@@ -82,7 +83,8 @@ pub record IsJoined (work output : NamedFiles) (text : List ℕ) : Type 0 where
   pub holds : Holds output last_id metas.schema contents
   pub printed : text ≡ joined_text metas.schema (kept_count opened) contents
 
--- it is the text that `merge` makes, and where both directories tell their files, that of what the work segments join to
+-- it is the text that `merge` makes, and where both directories tell their files, that of what the work segments join
+-- to
 pub record IsMergedText (before after : Directories) (text : List ℕ) : Type 0 where
   pub merges : MergesText (Ok text) before after
   pub told : IsTrue before.work.tells → IsTrue before.output.tells → IsJoined before.work.files after.output.files text
@@ -105,10 +107,12 @@ pub record HasWholeLiveSegments (files : NamedFiles) : Type 0 where
 
 -- the segments of an index that are merged: those with a live document, with no filter
 abbrev pub merged_of : Meta → List Asked
-merged_of meta = live_asked (map (segment_of meta.schema) meta.segments) (map (λ _. None) (map (segment_of meta.schema) meta.segments))
+merged_of meta =
+    live_asked (map (segment_of meta.schema) meta.segments)
+    (map (λ _. None) (map (segment_of meta.schema) meta.segments))
 
--- a directory that tells its files, which have such an index, with settings that fit; it lists a segment, and fewer than 2^31
--- live documents; what the files hold of those that are merged joins; and the directory does not fail
+-- a directory that tells its files, which have such an index, with settings that fit; it lists a segment, and fewer
+-- than 2^31 live documents; what the files hold of those that are merged joins; and the directory does not fail
 pub record HasMergeableIndex (before after : DirectoryState) : Type 0 where
   pub tells : IsTrue before.tells
   pub has : HasWholeLiveSegments before.files

@@ -34,21 +34,24 @@ use Rattle.seg_tool.specs.declared.words.Detail.TheVariants.{Brief, Full, Summar
 -- ---- both indexes are built
 
 -- they are written
-pub record Built (known : Known) (analyzer : Analyzer) (input : Input) (metas : IndexMeta) (before after : Directories) : Type 0 where
+pub record Built (known : Known) (analyzer : Analyzer) (input : Input) (metas : IndexMeta)
+    (before after : Directories) : Type 0 where
   pub admitted : input_refusal known analyzer input ≡ None
   pub valid : IsValidIf (IsTrue before.work.tells) known analyzer input
   pub work_was_empty : IsTrue before.work.tells → len before.work.files ≡ 0
   pub work_index : IsTrue before.work.tells → IsWorkIndexOf analyzer input after.work.files
   pub output_was_empty : IsTrue before.output.tells → len before.output.files ≡ 0
   pub output_meta : IsTrue before.output.tells → (documents : ℕ) × IsMergedIndexOf input documents after.output.files
-  pub output_index : IsTrue before.work.tells → IsTrue before.output.tells → IsOutputIndexOf analyzer input after.output.files
+  pub output_index : IsTrue before.work.tells → IsTrue before.output.tells
+      → IsOutputIndexOf analyzer input after.output.files
   pub any_moment : LeavesBuilt analyzer input before after
   pub at_rest : IsTrue before.work.tells → IsEmptyDisk before.output.disk
       → HasOnly (IsOutputIndexOf analyzer input) after.output.disk.now
   pub calls : BuildsIndexes known analyzer input (Ok metas) before after
 
 -- or it ends with an error: the first refusal, or out of memory, before a directory is called; or after that
-pub record NotBuilt (known : Known) (analyzer : Analyzer) (input : Input) (e : TantivyError) (before after : Directories) : Type 0 where
+pub record NotBuilt (known : Known) (analyzer : Analyzer) (input : Input) (e : TantivyError)
+    (before after : Directories) : Type 0 where
   pub first : IfSome (input_refusal known analyzer input)
       (λ first. ((e ≡ first) ⊎ (e ≡ OutOfMemory)) × (after ≡ before))
   pub refused : IsTrue before.work.tells → IfRefusal (λ x. build_refusal known analyzer input ≡ Some x) e
@@ -72,7 +75,8 @@ PrintsBoth detail =
     (λ work. InOutput (PrintsIndex work (codes "output") detail))
 
 -- both indexes of an input are written, and then printed, of what the directories answer
-abbrev pub BuildsText : Known → Analyzer → Input → Detail → Result (List ℕ) TantivyError → Directories → Directories → Type 0
+abbrev pub BuildsText : Known → Analyzer → Input → Detail → Result (List ℕ) TantivyError → Directories → Directories
+    → Type 0
 BuildsText known analyzer input detail = Then {X = IndexMeta} (BuildsBoth known analyzer input) (λ _. PrintsBoth detail)
 
 -- memory runs out before; or both indexes of the input of a number are written, and their summary is printed
@@ -88,7 +92,8 @@ last_id = 2 ^ 128 - 1
 
 -- the segments that a meta lists are merged with its settings and no filter
 abbrev pub merge_of : IndexMeta → MergeInput
-merge_of metas = merge_input (listed_segments metas) metas.index_settings (map (λ _. None) (listed_segments metas)) last_id
+merge_of metas =
+    merge_input (listed_segments metas) metas.index_settings (map (λ _. None) (listed_segments metas)) last_id
 
 -- what the merge of segments comes to
 pub record Merges (m : MergeInput) (result : Result IndexMeta TantivyError) (before after : Directories) : Type 0 where
@@ -98,7 +103,8 @@ pub record Merges (m : MergeInput) (result : Result IndexMeta TantivyError) (bef
       (λ merged. IsMergeOf m before.work.files (IsTrue before.output.tells) after.output.files (meta_of merged))
   pub work_stays : after.work.files ≡ before.work.files
   pub undamaged : IsTrue before.work.tells → LiveAreWhole before.work.files m.segments → IfErr result IsNoDamage
-  pub output_whole : IsTrue before.output.tells → IfOk result (λ merged. IsWholeIndex after.output.files (meta_of merged))
+  pub output_whole : IsTrue before.output.tells
+      → IfOk result (λ merged. IsWholeIndex after.output.files (meta_of merged))
   pub fresh : IsTrue before.output.tells → len before.output.files ≡ 0 → result ≢ Err IndexAlreadyExists
   pub complete : CanBeMerged m before after → IfErr result (λ e. e ≡ OutOfMemory)
   pub any_moment : IsTrue before.work.tells → IsEmptyDisk before.output.disk
@@ -138,5 +144,6 @@ pub data BuildsScript (known : Known) (analyzer : Analyzer) (detail : Detail) (b
   no_script : result ≡ Err Script → script bytes ≡ None → after ≡ before
       → BuildsScript known analyzer detail bytes result before after
   no_memory : result ≡ Err Memory → after ≡ before → BuildsScript known analyzer detail bytes result before after
-  of_input : (meant : Input) → script bytes ≡ Some meant → WithStatus (BuildsText known analyzer meant detail) result before after
+  of_input : (meant : Input) → script bytes ≡ Some meant
+      → WithStatus (BuildsText known analyzer meant detail) result before after
       → BuildsScript known analyzer detail bytes result before after

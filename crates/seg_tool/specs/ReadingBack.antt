@@ -26,8 +26,8 @@ PrintsNext label detail segment (Ok _) old new before after =
     (s : OpenSegment) × (new ≡ old ++ read_segment_text label detail s) × Opens (all_of_one segment) (Ok s) before after
 PrintsNext label detail segment (Err e) old new before after = Opens (all_of_one segment) (Err e) before after
 
--- segments are opened in turn, and the answer is what was printed before with their texts; or they aren't, also where memory
--- runs out between
+-- segments are opened in turn, and the answer is what was printed before with their texts; or they aren't, also where
+-- memory runs out between
 pub data ReadsText (front label : List ℕ) (detail : Detail) (asked : List Asked) (result : Result (List ℕ) TantivyError)
     (before after : DirectoryState) : Type 0 where
   fails : (e : TantivyError) → result ≡ Err e → OpensSegments asked (Err e) before after

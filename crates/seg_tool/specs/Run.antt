@@ -29,7 +29,8 @@ use Rattle.seg_tool.specs.declared.words.Detail.{Detail}
 
 -- a segment of documents, of which some are alive
 abbrev pub segment : Schema → Analyzer → List ℕ → ℕ → List Document → List Bool → PrintedSegment
-segment schema analyzer label id documents alive = record { label = label; id = id; alive = alive; reading = reading schema analyzer documents }
+segment schema analyzer label id documents alive =
+    record { label = label; id = id; alive = alive; reading = reading schema analyzer documents }
 
 -- the columns of documents; none where the numbers of a path have no type, which no segment has
 abbrev pub columns_or_none : Schema → Analyzer → List Document → Columns
@@ -46,7 +47,8 @@ abbrev pub work_text : Detail → Schema → Analyzer → List ℕ → List Batc
 work_text detail schema analyzer [] batches = []
 work_text detail schema analyzer (id ∷ ids) [] = []
 work_text detail schema analyzer (id ∷ ids) (batch ∷ batches) =
-    documents_text detail schema analyzer (codes "work") id batch.documents batch.alive ++ work_text detail schema analyzer ids batches
+    documents_text detail schema analyzer (codes "work") id batch.documents batch.alive
+    ++ work_text detail schema analyzer ids batches
 
 -- the output segment, of the survivors
 abbrev pub output_text : Detail → Schema → Analyzer → ℕ → List Document → List ℕ
@@ -83,8 +85,10 @@ pub record IsValidScript (told : Type 0) (known : Known) (analyzer : Analyzer) (
   pub is_script : script bytes ≡ Some meant
   pub valid : IsValidIf told known analyzer meant
 
--- both indexes of an input were written, and this is the text of what was read of both then; where both directories tell, it is that of the readings of the documents
-pub record IsTextOfInput (known : Known) (analyzer : Analyzer) (detail : Detail) (input : Input) (before after : Directories) (text : List ℕ) : Type 0 where
+-- both indexes of an input were written, and this is the text of what was read of both then; where both directories
+-- tell, it is that of the readings of the documents
+pub record IsTextOfInput (known : Known) (analyzer : Analyzer) (detail : Detail) (input : Input)
+    (before after : Directories) (text : List ℕ) : Type 0 where
   pub builds : BuildsText known analyzer input detail (Ok text) before after
   pub told : IsTrue before.work.tells → IsTrue before.output.tells → text ≡ build_text detail analyzer input
 

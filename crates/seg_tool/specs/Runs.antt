@@ -58,25 +58,28 @@ pub record TakesAll (bytes : List ℕ) (before after : SourceState) : Type 0 whe
 
 -- a text is written whole, or the sink fails
 pub data WritesText (text : List ℕ) (status : Status) (before after : SinkState) : Type 0 where
-  written : status ≡ Done → Appends before.written after.written text → before.faults ≤ after.faults → WritesText text status before after
+  written : status ≡ Done → Appends before.written after.written text → before.faults ≤ after.faults
+      → WritesText text status before after
   failed : status ≡ Stream → AppendsPart before.written after.written text → Rose before.faults after.faults
       → before.faults ≤ after.faults → WritesText text status before after
 
 -- a text is made and written, or there is none, and nothing goes to the sink
-pub data EndsJob {K : Type 0} (does : Result (List ℕ) Status → Directories → Directories → Type 0) (status : Status) (sink sink_after : K)
-    (before after : World) : Type 0 where
+pub data EndsJob {K : Type 0} (does : Result (List ℕ) Status → Directories → Directories → Type 0) (status : Status)
+    (sink sink_after : K) (before after : World) : Type 0 where
   no_text : does (Err status) before.directories after.directories → sink_after ≡ sink → after.sink ≡ before.sink
       → EndsJob does status sink sink_after before after
-  has_text : (text : List ℕ) → does (Ok text) before.directories after.directories → WritesText text status before.sink after.sink
+  has_text : (text : List ℕ) → does (Ok text) before.directories after.directories
+      → WritesText text status before.sink after.sink
       → EndsJob does status sink sink_after before after
 
 -- the source fails, has too many bytes, or memory runs out; or all its bytes are read, and the job ends with them
-pub data RunsBuild {K : Type 0} (known : Known) (analyzer : Analyzer) (detail : Detail) (status : Status) (sink sink_after : K)
-    (before after : World) : Type 0 where
+pub data RunsBuild {K : Type 0} (known : Known) (analyzer : Analyzer) (detail : Detail) (status : Status)
+    (sink sink_after : K) (before after : World) : Type 0 where
   not_read : status ≡ Stream → Rose before.source.faults after.source.faults → Takes before.source after.source
       → sink_after ≡ sink → after.sink ≡ before.sink → after.directories ≡ before.directories
       → RunsBuild known analyzer detail status sink sink_after before after
-  too_long : status ≡ Script → IfSome before.source.left (λ all. max_script < length all) → Takes before.source after.source
+  too_long : status ≡ Script → IfSome before.source.left (λ all. max_script < length all)
+      → Takes before.source after.source
       → sink_after ≡ sink → after.sink ≡ before.sink → after.directories ≡ before.directories
       → RunsBuild known analyzer detail status sink sink_after before after
   starved : status ≡ Memory → Takes before.source after.source
@@ -95,14 +98,15 @@ pub record TouchesNothing {S K : Type 0} (status : Status) (source source_after 
   pub same : after ≡ before
 
 -- a job that reads no source
-pub record RunsUnread {S K : Type 0} (does : Result (List ℕ) Status → Directories → Directories → Type 0) (status : Status)
-    (source source_after : S) (sink sink_after : K) (before after : World) : Type 0 where
+pub record RunsUnread {S K : Type 0} (does : Result (List ℕ) Status → Directories → Directories → Type 0)
+    (status : Status) (source source_after : S) (sink sink_after : K) (before after : World) : Type 0 where
   pub same_source : source_after ≡ source
   pub same : after.source ≡ before.source
   pub ends : EndsJob does status sink sink_after before after
 
 -- by the command
-abbrev pub RunsCommand : {S K : Type 0} → Known → Analyzer → Option Command → Status → S → S → K → K → World → World → Type 0
+abbrev pub RunsCommand : {S K : Type 0} → Known → Analyzer → Option Command → Status → S → S → K → K → World → World
+    → Type 0
 RunsCommand known analyzer None status source source_after sink sink_after before after =
     TouchesNothing status source source_after sink sink_after before after
 RunsCommand known analyzer (Some (Build detail)) status source source_after sink sink_after before after =

@@ -13,7 +13,8 @@ use Rattle.seg_tool.specs.declared.words.Detail.TheVariants.{Brief, Full}
 abbrev pub of_one : List ℕ → Option Command
 of_one word =
     if bytes_eq word (codes "build") then Some (Build Brief)
-    else (if bytes_eq word (codes "merge") then Some Merge else (if bytes_eq word (codes "show") then Some Show else None))
+    else (if bytes_eq word (codes "merge") then Some Merge
+    else (if bytes_eq word (codes "show") then Some Show else None))
 
 -- the job of two words
 abbrev pub of_two : List ℕ → List ℕ → Option Command

@@ -1,6 +1,6 @@
 //! The pairs of a map, whose fields are copied.
 
-use crate::failure::Failure;
+use crate::lines::Lines;
 use seg_access::FieldCopyingIterator;
 use seg_values::{Field, OwnedValue};
 use std::alloc::{AllocError, Global};
@@ -14,12 +14,18 @@ fn document(alloc: Global) -> Result<BTreeMap<Field, OwnedValue>, AllocError> {
     Ok(document)
 }
 
-pub(crate) fn print_copied_fields<R: Print + AllocGlobal>(rt: &R) -> Result<(), Failure> {
-    let document = document(rt.alloc())?;
-    for (field, value) in FieldCopyingIterator::new(document.iter()) {
-        println!(rt;
-            "one of FieldCopyingIterator over the map of 7 in field 2 and 8 in field 1: {field:?} {value:?}"
-        )?;
+fn add_pairs(lines: &mut Lines, document: &BTreeMap<Field, OwnedValue>) {
+    for pair in FieldCopyingIterator::new(document.iter()) {
+        lines.add_answer(
+            "one of FieldCopyingIterator over the map of 7 in field 2 and 8 in field 1",
+            &pair,
+        );
     }
-    Ok(())
+}
+
+pub(crate) fn add_copied_fields(lines: &mut Lines) {
+    match document(lines.alloc()) {
+        Ok(document) => add_pairs(lines, &document),
+        Err(_) => lines.miss(),
+    }
 }

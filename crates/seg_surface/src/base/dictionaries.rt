@@ -1,7 +1,7 @@
 //! Dictionaries of terms, and their ranges.
 
-use crate::bytes::print_bytes;
-use crate::failure::Failure;
+use crate::failure::Refused;
+use crate::lines::Lines;
 use seg_common::{OwnedBytes, TermInfo};
 use seg_termdict::{
     DictionaryType, TermDictError, TermDictionary, TermDictionaryBuilder, TermStreamer,
@@ -41,10 +41,27 @@ fn four_words(alloc: Global) -> Result<Vec<u8>, TermDictError> {
     builder.finish()
 }
 
-/// The dictionary of four words, shared once.
-fn words(alloc: Global) -> Result<TermDictionary, Failure> {
-    let bytes = OwnedBytes::from_vec(alloc, four_words(alloc)?)?;
-    Ok(TermDictionary::open(bytes)?.clone()?)
+/// The dictionary of four words.
+fn words(alloc: Global) -> Result<TermDictionary, Refused> {
+    let Ok(file) = four_words(alloc) else {
+        return Err(Refused);
+    };
+    let Ok(bytes) = OwnedBytes::from_vec(alloc, file) else {
+        return Err(Refused);
+    };
+    match TermDictionary::open(bytes) {
+        Ok(words) => Ok(words),
+        Err(_) => Err(Refused),
+    }
+}
+
+/// It, shared.
+fn shared_words(alloc: Global) -> Result<TermDictionary, Refused> {
+    let words = words(alloc)?;
+    match words.clone() {
+        Ok(again) => Ok(again),
+        Err(_) => Err(Refused),
+    }
 }
 
 /// The keys that a streamer goes on to, up to five, each with a blank after it.
@@ -60,62 +77,86 @@ fn keys(alloc: Global, mut stream: TermStreamer<'_>) -> Result<Vec<u8>, AllocErr
     Ok(keys)
 }
 
-/// Prints the keys that a streamer goes on to.
-fn print_keys<R: Print + AllocGlobal>(
-    rt: &R,
-    what: &str,
-    stream: TermStreamer<'_>,
-) -> Result<(), Failure> {
-    let keys = keys(rt.alloc(), stream)?;
-    let Ok(keys) = str::from_utf8(&keys) else {
-        return Err(Failure::Refused("from_utf8"));
+/// Adds the keys that a streamer goes on to.
+fn add_keys(lines: &mut Lines, what: &str, stream: TermStreamer<'_>) {
+    let Ok(keys) = keys(lines.alloc(), stream) else {
+        return lines.miss();
     };
-    println!(rt; "words {what}: {}", keys.trim_end())?;
-    Ok(())
-}
-
-/// Prints ranges with each kind of bound, and backward.
-fn print_ranges<R: Print + AllocGlobal>(rt: &R, words: &TermDictionary) -> Result<(), Failure> {
-    let forward = words.range(rt.alloc()).ge(b"b")?.lt(b"d")?;
-    print_keys(rt, "from b (ge) to below d (lt)", forward.into_stream())?;
-    let backward = words.range(rt.alloc()).gt(b"abba")?.le(b"blur")?;
-    print_keys(
-        rt,
-        "past abba (gt) to blur (le), backward",
-        backward.backward().into_stream(),
-    )
-}
-
-/// Prints the place of a word, and the word that is put back from it.
-fn print_place<R: Print + AllocGlobal>(
-    rt: &R,
-    words: &TermDictionary,
-    word: &str,
-) -> Result<(), Failure> {
-    let Some(place) = words.term_ord(word.as_bytes()) else {
-        return Err(Failure::Refused("term_ord"));
-    };
-    println!(rt; "term_ord of {word} among abba, bjork, blur and donovan: {place}")?;
-    let mut back = Vec::new(rt.alloc());
-    let found = words.ord_to_term(place, &mut back)?;
-    println!(rt; "ord_to_term of it: {found} {:?}", str::from_utf8(&back))?;
-    Ok(())
-}
-
-fn print_types<R: Print + AllocGlobal>(rt: &R) -> Result<(), Failure> {
-    for number in 0..4 {
-        println!(rt;
-            "type of dictionary of the number {number}: {:?}",
-            DictionaryType::try_from(number)
-        )?;
+    match str::from_utf8(&keys) {
+        Ok(keys) => lines.add_text(what, keys.trim_end()),
+        Err(_) => lines.miss(),
     }
-    Ok(())
 }
 
-pub(crate) fn print_dictionaries<R: Print + AllocGlobal>(rt: &R) -> Result<(), Failure> {
-    print_bytes(rt, "dictionary of the term a", &one_term(rt.alloc())?)?;
-    let words = words(rt.alloc())?;
-    print_ranges(rt, &words)?;
-    print_place(rt, &words, "blur")?;
-    print_types(rt)
+fn forward<'a>(
+    alloc: Global,
+    words: &'a TermDictionary,
+) -> Result<TermStreamer<'a>, TermDictError> {
+    let range = words.range(alloc).ge(b"b")?.lt(b"d")?;
+    Ok(range.into_stream())
+}
+
+fn backward<'a>(
+    alloc: Global,
+    words: &'a TermDictionary,
+) -> Result<TermStreamer<'a>, TermDictError> {
+    let range = words.range(alloc).gt(b"abba")?.le(b"blur")?;
+    Ok(range.backward().into_stream())
+}
+
+/// Adds ranges with each kind of bound, and backward.
+fn add_ranges(lines: &mut Lines, words: &TermDictionary) {
+    let alloc = lines.alloc();
+    match forward(alloc, words) {
+        Ok(stream) => add_keys(lines, "words from b (ge) to below d (lt)", stream),
+        Err(_) => lines.miss(),
+    }
+    match backward(alloc, words) {
+        Ok(stream) => add_keys(lines, "words past abba (gt) to blur (le), backward", stream),
+        Err(_) => lines.miss(),
+    }
+}
+
+/// Whether a place has a word, and its bytes.
+fn word_at(
+    alloc: Global,
+    words: &TermDictionary,
+    place: u64,
+) -> Result<(bool, Vec<u8>), TermDictError> {
+    let mut word = Vec::new(alloc);
+    let found = words.ord_to_term(place, &mut word)?;
+    Ok((found, word))
+}
+
+/// Adds the place of a word, and the word that is put back from it.
+fn add_place(lines: &mut Lines, words: &TermDictionary) {
+    let place = words.term_ord(b"blur");
+    lines.add_answer(
+        "term_ord of blur among abba, bjork, blur and donovan",
+        &place,
+    );
+    lines.add_result("ord_to_term of 2", word_at(lines.alloc(), words, 2));
+}
+
+fn add_types(lines: &mut Lines) {
+    for number in 0..4 {
+        lines.add_answer(
+            "a number, and the type of dictionary that it says",
+            &(number, DictionaryType::try_from(number)),
+        );
+    }
+}
+
+fn add_words(lines: &mut Lines, words: &TermDictionary) {
+    add_ranges(lines, words);
+    add_place(lines, words);
+}
+
+pub(crate) fn add_dictionaries(lines: &mut Lines) {
+    lines.add_file("dictionary of the term a", one_term(lines.alloc()));
+    match shared_words(lines.alloc()) {
+        Ok(words) => add_words(lines, &words),
+        Err(_) => lines.miss(),
+    }
+    add_types(lines);
 }

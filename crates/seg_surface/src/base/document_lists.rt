@@ -1,8 +1,8 @@
 //! The first value of a field, and documents in a list.
 
-use crate::failure::Failure;
+use crate::lines::Lines;
 use crate::samples::document;
-use seg_values::{Documents, Field};
+use seg_values::{Documents, Field, TantivyDocument};
 use std::alloc::{AllocError, Global};
 
 /// Two documents.
@@ -13,19 +13,28 @@ fn both(alloc: Global) -> Result<Documents, AllocError> {
     Ok(documents)
 }
 
-fn print_both<R: Print + AllocGlobal>(rt: &R) -> Result<(), Failure> {
-    let documents = both(rt.alloc())?;
-    for document in documents.as_slice() {
-        println!(rt; "one of Documents::as_slice after push of the texts a and b: {document:?}")?;
-    }
-    Ok(())
+fn add_first(lines: &mut Lines, document: &TantivyDocument) {
+    lines.add_answer(
+        "get_first of field 1 of a in field 0, b and c in field 1",
+        &document.get_first(Field::from_field_id(1)),
+    );
+    lines.add_answer(
+        "get_first of field 2 of a in field 0, b and c in field 1",
+        &document.get_first(Field::from_field_id(2)),
+    );
 }
 
-pub(crate) fn print_document_lists<R: Print + AllocGlobal>(rt: &R) -> Result<(), Failure> {
-    let document = document(rt.alloc(), &[(0, "a"), (1, "b"), (1, "c")])?;
-    for field in [1u32, 2] {
-        let first = document.get_first(Field::from_field_id(field));
-        println!(rt; "get_first of field {field} of a in field 0, b and c in field 1: {first:?}")?;
+pub(crate) fn add_document_lists(lines: &mut Lines) {
+    let alloc = lines.alloc();
+    match document(alloc, &[(0, "a"), (1, "b"), (1, "c")]) {
+        Ok(document) => add_first(lines, &document),
+        Err(_) => lines.miss(),
     }
-    print_both(rt)
+    match both(alloc) {
+        Ok(documents) => lines.add_each(
+            "one of Documents::as_slice after push of the texts a and b",
+            documents.as_slice(),
+        ),
+        Err(_) => lines.miss(),
+    }
 }

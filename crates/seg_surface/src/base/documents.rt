@@ -1,9 +1,11 @@
 //! The check of a document.
 
-use crate::failure::Failure;
+use crate::lines::Lines;
 use crate::samples::{Words, schema};
 use seg_check::check_document;
-use seg_values::{Field, FieldKind, IndexOption, OwnedValue, Schema, TantivyDocument, ValueError};
+use seg_values::{
+    Field, FieldKind, IndexOption, OwnedValue, Schema, TResult, TantivyDocument, ValueError,
+};
 use std::alloc::{AllocError, Global};
 
 fn titles(alloc: Global) -> Result<Schema, AllocError> {
@@ -17,23 +19,37 @@ fn document(alloc: Global, value: OwnedValue) -> Result<TantivyDocument, ValueEr
     Ok(document)
 }
 
-fn print_check<R: Print + AllocGlobal>(
-    rt: &R,
-    what: &str,
-    document: &TantivyDocument,
-) -> Result<(), Failure> {
-    let schema = titles(rt.alloc())?;
-    let checked = check_document(rt.alloc(), &schema, &Words, document, 5);
-    println!(rt; "check_document at 5 of {what} in a text field: {checked:?}")?;
-    Ok(())
+fn text(alloc: Global) -> Result<TantivyDocument, ValueError> {
+    let text = OwnedValue::from_text(alloc, "a b")?;
+    document(alloc, text)
 }
 
-pub(crate) fn print_documents<R: Print + AllocGlobal>(rt: &R) -> Result<(), Failure> {
-    let text = OwnedValue::from_text(rt.alloc(), "a b")?;
-    print_check(rt, "the text `a b`", &document(rt.alloc(), text)?)?;
-    print_check(
-        rt,
-        "the number 7",
-        &document(rt.alloc(), OwnedValue::U64(7))?,
-    )
+fn number(alloc: Global) -> Result<TantivyDocument, ValueError> {
+    document(alloc, OwnedValue::U64(7))
+}
+
+fn checked(alloc: Global, document: &TantivyDocument) -> TResult<()> {
+    let schema = titles(alloc)?;
+    check_document(alloc, &schema, &Words, document, 5)
+}
+
+fn add_check(lines: &mut Lines, what: &str, document: Result<TantivyDocument, ValueError>) {
+    match document {
+        Ok(document) => lines.add_answer(what, &checked(lines.alloc(), &document)),
+        Err(_) => lines.miss(),
+    }
+}
+
+pub(crate) fn add_documents(lines: &mut Lines) {
+    let alloc = lines.alloc();
+    add_check(
+        lines,
+        "check_document at 5 of the text `a b` in a text field",
+        text(alloc),
+    );
+    add_check(
+        lines,
+        "check_document at 5 of the number 7 in a text field",
+        number(alloc),
+    );
 }

@@ -1,6 +1,6 @@
 //! Iterators that put pieces into a buffer.
 
-use crate::failure::Failure;
+use crate::lines::Lines;
 use seg_common::FlatMapWithBufferIter;
 use std::alloc::{AllocError, Global};
 
@@ -20,16 +20,14 @@ fn numbers_below_each(alloc: Global, ends: &[u32]) -> Result<Vec<u32>, AllocErro
         .try_collect(alloc)
 }
 
-fn print_numbers_below<R: Print + AllocGlobal>(rt: &R, ends: &[u32]) -> Result<(), Failure> {
-    let numbers = numbers_below_each(rt.alloc(), ends)?;
-    println!(rt;
-        "flat_map_with_buffer, the numbers below each of {ends:?}: {:?}",
-        numbers.as_slice()
-    )?;
-    Ok(())
-}
-
-pub(crate) fn print_flat_maps<R: Print + AllocGlobal>(rt: &R) -> Result<(), Failure> {
-    print_numbers_below(rt, &[1, 2, 3, 4])?;
-    print_numbers_below(rt, &[2, 0, 0, 3])
+pub(crate) fn add_flat_maps(lines: &mut Lines) {
+    let alloc = lines.alloc();
+    lines.add_result(
+        "flat_map_with_buffer, the numbers below each of [1, 2, 3, 4]",
+        numbers_below_each(alloc, &[1, 2, 3, 4]),
+    );
+    lines.add_result(
+        "flat_map_with_buffer, the numbers below each of [2, 0, 0, 3]",
+        numbers_below_each(alloc, &[2, 0, 0, 3]),
+    );
 }

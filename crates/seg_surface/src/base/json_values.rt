@@ -1,6 +1,6 @@
 //! Values and documents as JSON, both ways.
 
-use crate::failure::Failure;
+use crate::lines::Lines;
 use crate::samples::schema;
 use seg_values::{Field, FieldKind, IndexOption, OwnedValue, TantivyDocument, ValueError};
 use serde_json::Value;
@@ -19,38 +19,42 @@ pub(crate) fn json(alloc: Global, text: &str) -> Result<Value, ValueError> {
     }
 }
 
-/// Prints what a JSON text is read as, plainly and else, and what the latter is told as.
-fn print_reading<R: Print + AllocGlobal>(rt: &R, text: &str) -> Result<(), Failure> {
-    let json = json(rt.alloc(), text)?;
-    let plain = OwnedValue::from_json(rt.alloc(), &json)?;
-    println!(rt;
-        "kind of from_json of {text}: {}",
-        plain.discriminant_value()
-    )?;
-    let other = OwnedValue::from_serde_json(rt.alloc(), &json)?;
-    println!(rt;
-        "kind of from_serde_json of {text}: {}",
-        other.discriminant_value()
-    )?;
-    println!(rt;
-        "to_json of from_serde_json of {text}: {}",
-        told(rt.alloc(), &other)?
-    )?;
-    Ok(())
+/// The kind of what a JSON text is read as plainly.
+fn plain_kind(alloc: Global, text: &str) -> Result<u8, ValueError> {
+    let json = json(alloc, text)?;
+    Ok(OwnedValue::from_json(alloc, &json)?.discriminant_value())
 }
 
-/// Prints what a JSON object is read as by its map.
-fn print_map<R: Print + AllocGlobal>(rt: &R, text: &str) -> Result<(), Failure> {
-    let json = json(rt.alloc(), text)?;
+/// What a JSON text is read as else.
+fn other_value(alloc: Global, text: &str) -> Result<OwnedValue, ValueError> {
+    let json = json(alloc, text)?;
+    OwnedValue::from_serde_json(alloc, &json)
+}
+
+fn add_other(lines: &mut Lines, value: &OwnedValue) {
+    let kind = value.discriminant_value();
+    lines.add_answer("  kind of from_serde_json", &kind);
+    lines.add_text_result("  to_json of from_serde_json", told(lines.alloc(), value));
+}
+
+/// Adds what a JSON text is read as, plainly and else, and what the latter is told as.
+fn add_reading(lines: &mut Lines, text: &str) {
+    let alloc = lines.alloc();
+    lines.add_text("JSON text", text);
+    lines.add_result("  kind of from_json", plain_kind(alloc, text));
+    match other_value(alloc, text) {
+        Ok(value) => add_other(lines, &value),
+        Err(_) => lines.miss(),
+    }
+}
+
+/// What a JSON object is told as once it is read by its map.
+fn told_by_map(alloc: Global, text: &str) -> Result<String, ValueError> {
+    let json = json(alloc, text)?;
     let Some(map) = json.as_object() else {
-        return Err(Failure::Refused("as_object"));
+        return Err(ValueError::Malformed);
     };
-    let value = OwnedValue::from_serde_map(rt.alloc(), map)?;
-    println!(rt;
-        "to_json of from_serde_map of {text}: {}",
-        told(rt.alloc(), &value)?
-    )?;
-    Ok(())
+    told(alloc, &OwnedValue::from_serde_map(alloc, map)?)
 }
 
 /// The document of bytes, in field 0.
@@ -61,21 +65,23 @@ fn document(alloc: Global, bytes: &[u8]) -> Result<TantivyDocument, ValueError> 
     Ok(document)
 }
 
-/// Prints a document of bytes as a JSON object, in a schema of the field `my_bytes`.
-fn print_object<R: Print + AllocGlobal>(rt: &R) -> Result<(), Failure> {
-    let schema = schema(
-        rt.alloc(),
-        &[("my_bytes", FieldKind::Bytes, IndexOption::No)],
-    )?;
-    let document = document(rt.alloc(), b"this is a test")?;
-    let object = document.to_json(rt.alloc(), &schema)?;
-    println!(rt; "document of the bytes of `this is a test` in my_bytes: {object}")?;
-    Ok(())
+/// A document of bytes as a JSON object, in a schema of the field `my_bytes`.
+fn told_document(alloc: Global, bytes: &[u8]) -> Result<String, ValueError> {
+    let rows = [("my_bytes", FieldKind::Bytes, IndexOption::No)];
+    let schema = schema(alloc, &rows)?;
+    document(alloc, bytes)?.to_json(alloc, &schema)
 }
 
-pub(crate) fn print_json_values<R: Print + AllocGlobal>(rt: &R) -> Result<(), Failure> {
-    print_reading(rt, "42")?;
-    print_reading(rt, "\"1996-12-20T00:39:57-01:00\"")?;
-    print_map(rt, "{\"a\":[1],\"b\":null}")?;
-    print_object(rt)
+pub(crate) fn add_json_values(lines: &mut Lines) {
+    let alloc = lines.alloc();
+    add_reading(lines, "42");
+    add_reading(lines, "\"1996-12-20T00:39:57-01:00\"");
+    lines.add_text_result(
+        "to_json of from_serde_map of {\"a\":[1],\"b\":null}",
+        told_by_map(alloc, "{\"a\":[1],\"b\":null}"),
+    );
+    lines.add_text_result(
+        "document of the bytes of `this is a test` in my_bytes",
+        told_document(alloc, b"this is a test"),
+    );
 }

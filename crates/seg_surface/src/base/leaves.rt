@@ -1,6 +1,6 @@
 //! What values of leaf types are read as.
 
-use crate::failure::Failure;
+use crate::lines::Lines;
 use seg_access::{ReferenceValue, ReferenceValueLeaf, Value};
 use seg_common::DateTime;
 use seg_tokens::{PreTokenizedString, Text, Tokens};
@@ -8,26 +8,22 @@ use seg_values::Facet;
 use std::alloc::{AllocError, Global};
 use std::net::Ipv6Addr;
 
-/// Prints a leaf, after the type and the value that it was read from.
-fn print_leaf<R: Print>(rt: &R, what: &str, leaf: ReferenceValueLeaf<'_>) -> Result<(), Failure> {
-    let printed = match leaf {
-        ReferenceValueLeaf::Null => println!(rt; "as_value of {what}: Null"),
-        ReferenceValueLeaf::Str(text) => println!(rt; "as_value of {what}: Str {text:?}"),
+/// Adds a leaf, after the type and the value that it was read from.
+fn add_leaf(lines: &mut Lines, what: &str, leaf: ReferenceValueLeaf<'_>) {
+    match leaf {
+        ReferenceValueLeaf::Null => lines.add_text(what, "Null"),
+        ReferenceValueLeaf::Str(text) => lines.add_answer(what, &("Str", text)),
         ReferenceValueLeaf::PreTokStr(text) => {
-            println!(rt; "as_value of {what}: PreTokStr {:?}", text.text.as_str())
+            lines.add_answer(what, &("PreTokStr", text.text.as_str()))
         }
-        ReferenceValueLeaf::U64(number) => println!(rt; "as_value of {what}: U64 {number}"),
-        ReferenceValueLeaf::I64(number) => println!(rt; "as_value of {what}: I64 {number}"),
-        ReferenceValueLeaf::Bool(truth) => println!(rt; "as_value of {what}: Bool {truth}"),
-        ReferenceValueLeaf::Date(date) => println!(rt; "as_value of {what}: Date {date:?}"),
-        ReferenceValueLeaf::Facet(text) => println!(rt; "as_value of {what}: Facet {text:?}"),
-        ReferenceValueLeaf::Bytes(bytes) => println!(rt; "as_value of {what}: Bytes {bytes:?}"),
-        ReferenceValueLeaf::IpAddr(address) => {
-            println!(rt; "as_value of {what}: IpAddr {address}")
-        }
-    };
-    printed?;
-    Ok(())
+        ReferenceValueLeaf::U64(number) => lines.add_answer(what, &("U64", number)),
+        ReferenceValueLeaf::I64(number) => lines.add_answer(what, &("I64", number)),
+        ReferenceValueLeaf::Bool(truth) => lines.add_answer(what, &("Bool", truth)),
+        ReferenceValueLeaf::Date(date) => lines.add_answer(what, &("Date", date)),
+        ReferenceValueLeaf::Facet(text) => lines.add_answer(what, &("Facet", text)),
+        ReferenceValueLeaf::Bytes(bytes) => lines.add_answer(what, &("Bytes", bytes)),
+        ReferenceValueLeaf::IpAddr(address) => lines.add_answer(what, &("IpAddr", address)),
+    }
 }
 
 /// The leaf that a value is read as; null where it is none.
@@ -47,49 +43,64 @@ fn without_tokens(alloc: Global, text: &str) -> Result<PreTokenizedString, Alloc
     })
 }
 
-fn print_texts<R: Print + AllocGlobal>(rt: &R) -> Result<(), Failure> {
-    print_leaf(rt, "the &str a", leaf_of("a"))?;
-    print_leaf(rt, "the &&str a", leaf_of(&"a"))?;
-    print_leaf(
-        rt,
-        "the &String a",
-        leaf_of(&String::from_str(rt.alloc(), "a")?),
-    )
+fn add_texts(lines: &mut Lines) {
+    add_leaf(lines, "as_value of the &str a", leaf_of("a"));
+    add_leaf(lines, "as_value of the &&str a", leaf_of(&"a"));
+    match String::from_str(lines.alloc(), "a") {
+        Ok(text) => add_leaf(lines, "as_value of the &String a", leaf_of(&text)),
+        Err(_) => lines.miss(),
+    }
 }
 
-fn print_marked_texts<R: Print + AllocGlobal>(rt: &R) -> Result<(), Failure> {
-    let text = without_tokens(rt.alloc(), "a")?;
-    print_leaf(rt, "the &PreTokenizedString a", leaf_of(&text))?;
-    let facet = Facet::from_text(rt.alloc(), "/a/b")?;
-    print_leaf(rt, "the &Facet /a/b", leaf_of(&facet))
+fn add_marked_texts(lines: &mut Lines) {
+    let alloc = lines.alloc();
+    match without_tokens(alloc, "a") {
+        Ok(text) => add_leaf(
+            lines,
+            "as_value of the &PreTokenizedString a",
+            leaf_of(&text),
+        ),
+        Err(_) => lines.miss(),
+    }
+    match Facet::from_text(alloc, "/a/b") {
+        Ok(facet) => add_leaf(lines, "as_value of the &Facet /a/b", leaf_of(&facet)),
+        Err(_) => lines.miss(),
+    }
 }
 
-fn print_numbers<R: Print>(rt: &R) -> Result<(), Failure> {
-    print_leaf(rt, "the &u64 7", leaf_of(&7u64))?;
-    print_leaf(rt, "the &i64 -7", leaf_of(&-7i64))?;
-    print_leaf(rt, "the &bool true", leaf_of(&true))
+fn add_numbers(lines: &mut Lines) {
+    add_leaf(lines, "as_value of the &u64 7", leaf_of(&7u64));
+    add_leaf(lines, "as_value of the &i64 -7", leaf_of(&-7i64));
+    add_leaf(lines, "as_value of the &bool true", leaf_of(&true));
 }
 
-fn print_moments<R: Print>(rt: &R) -> Result<(), Failure> {
+fn add_moments(lines: &mut Lines) {
     let moment = DateTime::from_timestamp_nanos(1);
-    print_leaf(rt, "the &DateTime of 1 ns", leaf_of(&moment))?;
+    add_leaf(lines, "as_value of the &DateTime of 1 ns", leaf_of(&moment));
     let address = Ipv6Addr::new(0, 0, 0, 0, 0, 0, 0, 1);
-    print_leaf(rt, "the &Ipv6Addr ::1", leaf_of(&address))
+    add_leaf(lines, "as_value of the &Ipv6Addr ::1", leaf_of(&address));
 }
 
-fn print_byte_strings<R: Print + AllocGlobal>(rt: &R) -> Result<(), Failure> {
-    let bytes: &[u8] = b"a";
-    print_leaf(rt, "the &[u8] a", leaf_of(bytes))?;
-    print_leaf(rt, "the &&[u8] a", leaf_of(&bytes))?;
-    let mut list = Vec::new(rt.alloc());
+fn list_of(alloc: Global, bytes: &[u8]) -> Result<Vec<u8>, AllocError> {
+    let mut list = Vec::new(alloc);
     list.extend_from_slice(bytes)?;
-    print_leaf(rt, "the &Vec<u8> a", leaf_of(&list))
+    Ok(list)
 }
 
-pub(crate) fn print_leaves<R: Print + AllocGlobal>(rt: &R) -> Result<(), Failure> {
-    print_texts(rt)?;
-    print_marked_texts(rt)?;
-    print_numbers(rt)?;
-    print_moments(rt)?;
-    print_byte_strings(rt)
+fn add_byte_strings(lines: &mut Lines) {
+    let bytes: &[u8] = b"a";
+    add_leaf(lines, "as_value of the &[u8] a", leaf_of(bytes));
+    add_leaf(lines, "as_value of the &&[u8] a", leaf_of(&bytes));
+    match list_of(lines.alloc(), bytes) {
+        Ok(list) => add_leaf(lines, "as_value of the &Vec<u8> a", leaf_of(&list)),
+        Err(_) => lines.miss(),
+    }
+}
+
+pub(crate) fn add_leaves(lines: &mut Lines) {
+    add_texts(lines);
+    add_marked_texts(lines);
+    add_numbers(lines);
+    add_moments(lines);
+    add_byte_strings(lines);
 }

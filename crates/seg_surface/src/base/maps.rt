@@ -1,7 +1,7 @@
 //! Objects and documents that are made of maps.
 
 use super::json_values::told;
-use crate::failure::Failure;
+use crate::lines::Lines;
 use seg_values::{Document, Field, OwnedValue, ValueError};
 use std::alloc::{AllocError, Global};
 use std::collections::{BTreeMap, HashMap};
@@ -18,6 +18,10 @@ fn object(alloc: Global) -> Result<OwnedValue, ValueError> {
     OwnedValue::from_map(alloc, members(alloc)?)
 }
 
+fn told_object(alloc: Global) -> Result<String, ValueError> {
+    told(alloc, &object(alloc)?)
+}
+
 /// The document of the number 7 in field 2 and 8 in field 1, which came in this order.
 fn document(alloc: Global) -> Result<HashMap<Field, OwnedValue>, AllocError> {
     let mut document = HashMap::new(alloc);
@@ -26,23 +30,26 @@ fn document(alloc: Global) -> Result<HashMap<Field, OwnedValue>, AllocError> {
     Ok(document)
 }
 
-fn print_pairs<R: Print + AllocGlobal>(rt: &R) -> Result<(), Failure> {
-    let document = document(rt.alloc())?;
-    let pairs = document.pairs(rt.alloc())?;
+fn add_pairs(lines: &mut Lines, document: &HashMap<Field, OwnedValue>) {
+    let Ok(pairs) = document.pairs(lines.alloc()) else {
+        return lines.miss();
+    };
     for place in 0..pairs.len() {
-        let (field, value) = pairs.pair(place);
-        println!(rt;
-            "pair {place} of the map of 7 in field 2 and 8 in field 1: {field:?} {value:?}"
-        )?;
+        lines.add_answer(
+            "one of the pairs of the map of 7 in field 2 and 8 in field 1",
+            &pairs.pair(place),
+        );
     }
-    Ok(())
 }
 
-pub(crate) fn print_maps<R: Print + AllocGlobal>(rt: &R) -> Result<(), Failure> {
-    let object = object(rt.alloc())?;
-    println!(rt;
-        "to_json of from_map of b (null) and a (7): {}",
-        told(rt.alloc(), &object)?
-    )?;
-    print_pairs(rt)
+pub(crate) fn add_maps(lines: &mut Lines) {
+    let alloc = lines.alloc();
+    lines.add_text_result(
+        "to_json of from_map of b (null) and a (7)",
+        told_object(alloc),
+    );
+    match document(alloc) {
+        Ok(document) => add_pairs(lines, &document),
+        Err(_) => lines.miss(),
+    }
 }

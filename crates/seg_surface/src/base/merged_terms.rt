@@ -1,7 +1,8 @@
 //! The terms of two dictionaries, merged.
 ghost use Rattle.std.specs.Prelude.{◌≡◌, false, All, IfOk, IsSome, IsSomeAnd};
 
-use crate::failure::Failure;
+use crate::failure::Refused;
+use crate::lines::Lines;
 use seg_common::{OwnedBytes, TermInfo};
 use seg_termdict::{
     TermDictError, TermDictionary, TermDictionaryBuilder, TermMerger, TermStreamer,
@@ -31,9 +32,17 @@ fn b_and_c(alloc: Global) -> Result<Vec<u8>, TermDictError> {
     builder.finish()
 }
 
-fn open(alloc: Global, file: Vec<u8>) -> Result<TermDictionary, Failure> {
-    let bytes = OwnedBytes::from_vec(alloc, file)?;
-    Ok(TermDictionary::open(bytes)?)
+fn open(alloc: Global, file: Result<Vec<u8>, TermDictError>) -> Result<TermDictionary, Refused> {
+    let Ok(file) = file else {
+        return Err(Refused);
+    };
+    let Ok(bytes) = OwnedBytes::from_vec(alloc, file) else {
+        return Err(Refused);
+    };
+    match TermDictionary::open(bytes) {
+        Ok(dictionary) => Ok(dictionary),
+        Err(_) => Err(Refused),
+    }
 }
 
 /// A dictionary whose terms are merged.
@@ -80,38 +89,40 @@ fn merger<'a>(
     }
 }
 
-fn print_term<R: Print>(rt: &R, merger: &TermMerger<'_>) -> Result<(), Failure>
+fn add_term(lines: &mut Lines, merger: &TermMerger<'_>)
     requires { IsSomeAnd merger.now (λ m. IsSome m.current) }
 {
-    let key = merger.key();
-    let segments = merger.matching_segments();
-    println!(rt; "  key {key:?}, matching_segments: {segments:?}")?;
-    Ok(())
+    lines.add_answer(
+        "  key, matching_segments",
+        &(merger.key(), merger.matching_segments()),
+    );
 }
 
-/// Goes on to the next term, and prints it.
-fn print_next<R: Print>(rt: &R, merger: &mut TermMerger<'_>) -> Result<(), Failure> {
+/// Goes on to the next term, and adds it.
+fn add_next(lines: &mut Lines, merger: &mut TermMerger<'_>) {
     match merger.advance() {
-        Ok(true) => print_term(rt, merger),
-        _ => Err(Failure::Refused("TermMerger::advance")),
+        Ok(true) => add_term(lines, merger),
+        _ => lines.miss(),
     }
 }
 
-fn print_merged<R: Print + AllocGlobal>(
-    rt: &R,
-    first: &TermDictionary,
-    second: &TermDictionary,
-) -> Result<(), Failure> {
-    let mut merger = merger(rt.alloc(), first, second)?;
+fn add_merged(lines: &mut Lines, first: &TermDictionary, second: &TermDictionary) {
+    let Ok(mut merger) = merger(lines.alloc(), first, second) else {
+        return lines.miss();
+    };
     for _ in 0..3 {
-        print_next(rt, &mut merger)?;
+        add_next(lines, &mut merger);
     }
-    Ok(())
 }
 
-pub(crate) fn print_merged_terms<R: Print + AllocGlobal>(rt: &R) -> Result<(), Failure> {
-    println!(rt; "TermMerger of the dictionaries of a and b and of b and c:")?;
-    let first = open(rt.alloc(), a_and_b(rt.alloc())?)?;
-    let second = open(rt.alloc(), b_and_c(rt.alloc())?)?;
-    print_merged(rt, &first, &second)
+pub(crate) fn add_merged_terms(lines: &mut Lines) {
+    let alloc = lines.alloc();
+    lines.add("TermMerger of the dictionaries of a and b and of b and c:");
+    let Ok(first) = open(alloc, a_and_b(alloc)) else {
+        return lines.miss();
+    };
+    match open(alloc, b_and_c(alloc)) {
+        Ok(second) => add_merged(lines, &first, &second),
+        Err(_) => lines.miss(),
+    }
 }

@@ -1,6 +1,7 @@
 //! The text of a meta, read and written.
 
-use crate::failure::Failure;
+use crate::failure::Refused;
+use crate::lines::Lines;
 use seg_meta::{meta_text, read_meta};
 use std::alloc::Global;
 
@@ -46,20 +47,31 @@ const TEXT: &str = "{
 ";
 
 /// The text of the meta that is read from a text.
-fn rewritten(alloc: Global, text: &str) -> Result<Vec<u8>, Failure> {
-    let metas = read_meta(alloc, text.as_bytes())?;
-    Ok(meta_text(alloc, &metas)?)
+fn rewritten(alloc: Global, text: &str) -> Result<Vec<u8>, Refused> {
+    let Ok(metas) = read_meta(alloc, text.as_bytes()) else {
+        return Err(Refused);
+    };
+    match meta_text(alloc, &metas) {
+        Ok(text) => Ok(text),
+        Err(_) => Err(Refused),
+    }
 }
 
-pub(crate) fn print_meta<R: Print + AllocGlobal>(rt: &R) -> Result<(), Failure> {
-    let text = rewritten(rt.alloc(), TEXT)?;
-    let Ok(text) = str::from_utf8(&text) else {
-        return Err(Failure::Refused("from_utf8"));
+fn add_text(lines: &mut Lines, text: &str) {
+    let is_as_read = text == TEXT;
+    lines.add_answer(
+        "whether the meta below is written as it was read",
+        &is_as_read,
+    );
+    lines.add(text.trim_end());
+}
+
+pub(crate) fn add_meta(lines: &mut Lines) {
+    let Ok(text) = rewritten(lines.alloc(), TEXT) else {
+        return lines.miss();
     };
-    println!(rt;
-        "whether the meta below is written as it was read: {}",
-        text == TEXT
-    )?;
-    print!(rt; "{text}")?;
-    Ok(())
+    match str::from_utf8(&text) {
+        Ok(text) => add_text(lines, text),
+        Err(_) => lines.miss(),
+    }
 }

@@ -1,6 +1,6 @@
 //! Values and bytes with many owners.
 
-use crate::failure::Failure;
+use crate::lines::Lines;
 use seg_common::{OwnedBytes, Shared};
 use std::alloc::{AllocError, Global};
 use std::rc::Rc;
@@ -18,17 +18,20 @@ fn owners(alloc: Global) -> Result<(usize, usize), AllocError> {
     Ok((beside, Rc::strong_count(&value)))
 }
 
-fn print_owned_bytes<R: Print + AllocGlobal>(rt: &R) -> Result<(), Failure> {
-    let bytes = OwnedBytes::new(rt.alloc(), b".idx")?;
-    println!(rt; "OwnedBytes of .idx, shown: {bytes:?}")?;
-    let (front, back) = bytes.split_from_end(1);
-    println!(rt; "split_from_end of .idx, one byte: {front:?} {back:?}")?;
-    Ok(())
+/// The bytes of `.idx` before the last one, and it.
+fn halves(alloc: Global) -> Result<(OwnedBytes, OwnedBytes), AllocError> {
+    let Ok(bytes) = OwnedBytes::new(alloc, b".idx") else {
+        return Err(AllocError);
+    };
+    Ok(bytes.split_from_end(1))
 }
 
-pub(crate) fn print_owners<R: Print + AllocGlobal>(rt: &R) -> Result<(), Failure> {
-    let (beside, without) = owners(rt.alloc())?;
-    println!(rt; "owners of a value beside two that share it, of which one is gone: {beside}")?;
-    println!(rt; "owners of the value without both: {without}")?;
-    print_owned_bytes(rt)
+pub(crate) fn add_owners(lines: &mut Lines) {
+    let alloc = lines.alloc();
+    lines.add_result(
+        "owners of a value beside two that share it, of which one is gone, and without both",
+        owners(alloc),
+    );
+    lines.add_result("OwnedBytes of .idx, shown", OwnedBytes::new(alloc, b".idx"));
+    lines.add_result("split_from_end of .idx, one byte", halves(alloc));
 }

@@ -1,7 +1,7 @@
 //! Values and documents that are read from pieces, and copied.
 
 use super::json_values::{json, told};
-use crate::failure::Failure;
+use crate::lines::Lines;
 use seg_access::{DocumentDeserialize, JsonValue, Piece, Pieces, ValueDeserialize, to_owned_value};
 use seg_values::{Field, OwnedValue, TantivyDocument, ValueError};
 use std::alloc::{AllocError, Global};
@@ -23,18 +23,18 @@ fn copies(alloc: Global) -> Result<(OwnedValue, OwnedValue), ValueError> {
     Ok((copy, to_owned_value(alloc, &json)?))
 }
 
-fn print_copies<R: Print + AllocGlobal>(rt: &R) -> Result<(), Failure> {
-    let (of_value, of_json) = copies(rt.alloc())?;
-    println!(rt;
-        "pieces Array(1) Null, read as a value and copied: {}",
-        told(rt.alloc(), &of_value)?
-    )?;
-    println!(rt;
-        "pieces Array(1) Null, read as a JSON value and copied: {}",
-        told(rt.alloc(), &of_json)?
-    )?;
-    println!(rt; "whether the copies are equal: {}", of_value == of_json)?;
-    Ok(())
+fn add_copies(lines: &mut Lines, of_value: &OwnedValue, of_json: &OwnedValue) {
+    let alloc = lines.alloc();
+    lines.add_text_result(
+        "pieces Array(1) Null, read as a value and copied",
+        told(alloc, of_value),
+    );
+    lines.add_text_result(
+        "pieces Array(1) Null, read as a JSON value and copied",
+        told(alloc, of_json),
+    );
+    let are_equal = of_value == of_json;
+    lines.add_answer("whether the copies are equal", &are_equal);
 }
 
 /// The kind of the value that a JSON text is copied as.
@@ -43,14 +43,16 @@ fn kind_of(alloc: Global, text: &str) -> Result<u8, ValueError> {
     Ok(to_owned_value(alloc, &json)?.discriminant_value())
 }
 
-fn print_kinds<R: Print + AllocGlobal>(rt: &R) -> Result<(), Failure> {
-    for text in ["[null]", "[1.5]"] {
-        println!(rt;
-            "kind of the copy of a JSON value {text}: {:?}",
-            kind_of(rt.alloc(), text)
-        )?;
-    }
-    Ok(())
+fn add_kinds(lines: &mut Lines) {
+    let alloc = lines.alloc();
+    lines.add_answer(
+        "kind of the copy of a JSON value [null]",
+        &kind_of(alloc, "[null]"),
+    );
+    lines.add_answer(
+        "kind of the copy of a JSON value [1.5]",
+        &kind_of(alloc, "[1.5]"),
+    );
 }
 
 /// The number 7 in field 1.
@@ -61,20 +63,26 @@ fn document(alloc: Global) -> Result<Pieces, AllocError> {
     Ok(Pieces::new(pieces))
 }
 
-/// How many pairs the document has as a list, and as a map of each kind.
-fn pairs_read(alloc: Global) -> Result<(usize, usize, usize), ValueError> {
-    let listed = TantivyDocument::from_pieces(alloc, &mut document(alloc)?)?.len();
-    let sorted = BTreeMap::<Field, OwnedValue>::from_pieces(alloc, &mut document(alloc)?)?.len();
-    let hashed = HashMap::<Field, OwnedValue>::from_pieces(alloc, &mut document(alloc)?)?.len();
-    Ok((listed, sorted, hashed))
+fn pairs_listed(alloc: Global) -> Result<usize, ValueError> {
+    Ok(TantivyDocument::from_pieces(alloc, &mut document(alloc)?)?.len())
 }
 
-fn print_documents<R: Print + AllocGlobal>(rt: &R) -> Result<(), Failure> {
-    let (listed, sorted, hashed) = pairs_read(rt.alloc())?;
-    println!(rt; "pairs of the document of 7 in field 1, read from pieces: {listed}")?;
-    println!(rt; "pairs of the same as a BTreeMap: {sorted}")?;
-    println!(rt; "pairs of the same as a HashMap: {hashed}")?;
-    Ok(())
+fn pairs_sorted(alloc: Global) -> Result<usize, ValueError> {
+    Ok(BTreeMap::<Field, OwnedValue>::from_pieces(alloc, &mut document(alloc)?)?.len())
+}
+
+fn pairs_hashed(alloc: Global) -> Result<usize, ValueError> {
+    Ok(HashMap::<Field, OwnedValue>::from_pieces(alloc, &mut document(alloc)?)?.len())
+}
+
+fn add_documents(lines: &mut Lines) {
+    let alloc = lines.alloc();
+    lines.add_result(
+        "pairs of the document of 7 in field 1, read from pieces",
+        pairs_listed(alloc),
+    );
+    lines.add_result("pairs of the same as a BTreeMap", pairs_sorted(alloc));
+    lines.add_result("pairs of the same as a HashMap", pairs_hashed(alloc));
 }
 
 /// Why an array that counts more values than there are pieces isn't read.
@@ -84,11 +92,15 @@ fn refusal_of_array(alloc: Global) -> Result<Option<ValueError>, AllocError> {
     Ok(OwnedValue::from_pieces(alloc, &mut Pieces::new(pieces)).err())
 }
 
-pub(crate) fn print_pieces<R: Print + AllocGlobal>(rt: &R) -> Result<(), Failure> {
-    print_copies(rt)?;
-    print_kinds(rt)?;
-    print_documents(rt)?;
-    let refusal = refusal_of_array(rt.alloc())?;
-    println!(rt; "error of the piece Array({}) alone: {refusal:?}", u64::MAX)?;
-    Ok(())
+pub(crate) fn add_pieces(lines: &mut Lines) {
+    match copies(lines.alloc()) {
+        Ok((of_value, of_json)) => add_copies(lines, &of_value, &of_json),
+        Err(_) => lines.miss(),
+    }
+    add_kinds(lines);
+    add_documents(lines);
+    lines.add_result(
+        "error of the piece Array(18446744073709551615) alone",
+        refusal_of_array(lines.alloc()),
+    );
 }

@@ -1,6 +1,6 @@
 //! The order of types.
 
-use crate::failure::Failure;
+use crate::lines::Lines;
 use seg_values::FieldType;
 
 /// All types, in order.
@@ -16,13 +16,12 @@ const TYPES: [FieldType; 9] = [
     FieldType::U64,
 ];
 
-pub(crate) fn print_types<R: Print + AllocGlobal>(rt: &R) -> Result<(), Failure> {
+pub(crate) fn add_types(lines: &mut Lines) {
     for pair in TYPES.windows(2) {
         let (lower, upper) = (pair[0], pair[1]);
-        println!(rt;
-            "whether the type {lower:?} comes before {upper:?}: {}",
-            lower < upper
-        )?;
+        lines.add_answer(
+            "a type, another one, and whether it comes before that",
+            &(lower, upper, lower < upper),
+        );
     }
-    Ok(())
 }

@@ -1,14 +1,13 @@
 //! A file that the writer of fast fields made.
 ghost use Rattle.std.specs.Prelude.{◌≡◌, IfOk};
 
-use crate::bytes::print_bytes;
-use crate::failure::Failure;
+use crate::lines::Lines;
 use crate::samples::{Words, entry, settings};
 use seg_check::{LEAST_BUDGET, check_document, start_refusal};
 use seg_fastfield::FastFieldsWriter;
 use seg_values::{
     Field, FieldEntry, FieldKind, IndexOption, OwnedValue, Schema, SchemaBuilder, TResult,
-    TantivyDocument, ValueError,
+    TantivyDocument, TantivyError, ValueError,
 };
 use std::alloc::{AllocError, Global};
 
@@ -45,12 +44,18 @@ fn file_of(alloc: Global, schema: &Schema, document: &TantivyDocument) -> TResul
     writer.serialize()
 }
 
-pub(crate) fn print_fast_writing<R: Print + AllocGlobal>(rt: &R) -> Result<(), Failure> {
-    let schema = numbers(rt.alloc())?;
-    let document = document(rt.alloc())?;
-    print_bytes(
-        rt,
+/// The file of the number 42.
+fn file(alloc: Global) -> TResult<Vec<u8>> {
+    let schema = numbers(alloc)?;
+    match document(alloc) {
+        Ok(document) => file_of(alloc, &schema, &document),
+        Err(_) => Err(TantivyError::OutOfMemory),
+    }
+}
+
+pub(crate) fn add_fast_field_file(lines: &mut Lines) {
+    lines.add_file(
         "FastFieldsWriter::add_document of the number 42 in the fast field n, file of `serialize`",
-        &file_of(rt.alloc(), &schema, &document)?,
-    )
+        file(lines.alloc()),
+    );
 }

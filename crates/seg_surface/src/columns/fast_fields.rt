@@ -1,8 +1,8 @@
 //! Readers of fast fields, over a file of columns that was written by hand.
 
-use crate::columns::answers::{first_value, print_handles};
+use crate::columns::answers::{add_handles, first_value};
 use crate::columns::files::open;
-use crate::failure::Failure;
+use crate::lines::Lines;
 use crate::samples::entry;
 use seg_columns::{Column, ColumnValue};
 use seg_common::ColumnType;
@@ -53,213 +53,196 @@ fn readers(alloc: Global) -> TResult<FastFieldReaders> {
     Ok(FastFieldReaders::new(columnar, builder.build()))
 }
 
-pub(crate) fn print_fast_fields<R: Print + AllocGlobal>(rt: &R) -> Result<(), Failure> {
-    println!(rt; "FastFieldReaders of a document with 42, \"bar\" and true at json.foo:")?;
-    let Ok(readers) = readers(rt.alloc()) else {
-        return Err(Failure::Refused("FastFieldReaders::new"));
-    };
-    print_readers(rt, &readers)?;
-    print_not_available(rt)
-}
-
-fn print_readers<R: Print + AllocGlobal>(
-    rt: &R,
-    readers: &FastFieldReaders,
-) -> Result<(), Failure> {
-    print_at(rt, readers, "json.foo")?;
-    print_at(rt, readers, "json")?;
-    print_below(rt, readers, "json")?;
-    print_handle(rt, readers, "json.foo")?;
-    print_size(rt, readers, "json.foo")?;
-    print_path(rt, readers, "json.foo")?;
-    print_typed(rt, readers)?;
-    print_first_alone(rt, readers)?;
-    print_terms(rt, readers)?;
-    print_absent(rt, readers)?;
-    print_numbers(rt, readers)
-}
-
-/// Prints the columns of a name.
-fn print_at<R: Print + AllocGlobal>(
-    rt: &R,
-    readers: &FastFieldReaders,
-    name: &str,
-) -> Result<(), Failure> {
-    let Ok(handles) = readers.dynamic_column_handles(rt.alloc(), name) else {
-        return Err(Failure::Refused("dynamic_column_handles"));
-    };
-    print_handles(rt, "dynamic_column_handles", name, &handles)
-}
-
-/// Prints the columns below a name.
-fn print_below<R: Print + AllocGlobal>(
-    rt: &R,
-    readers: &FastFieldReaders,
-    name: &str,
-) -> Result<(), Failure> {
-    let Ok(handles) = readers.dynamic_subpath_column_handles(rt.alloc(), name) else {
-        return Err(Failure::Refused("dynamic_subpath_column_handles"));
-    };
-    print_handles(rt, "dynamic_subpath_column_handles", name, &handles)
-}
-
-/// Prints whether a name has a column of texts.
-fn print_handle<R: Print + AllocGlobal>(
-    rt: &R,
-    readers: &FastFieldReaders,
-    name: &str,
-) -> Result<(), Failure> {
-    let Ok(handle) = readers.dynamic_column_handle(rt.alloc(), name, ColumnType::Str) else {
-        return Err(Failure::Refused("dynamic_column_handle"));
-    };
-    println!(rt;
-        "dynamic_column_handle({name:?}, Str) is there: {}",
-        handle.is_some()
-    )?;
-    Ok(())
-}
-
-/// Prints how many bytes the columns of a name have.
-fn print_size<R: Print + AllocGlobal>(
-    rt: &R,
-    readers: &FastFieldReaders,
-    name: &str,
-) -> Result<(), Failure> {
-    let Ok(size) = readers.column_num_bytes(rt.alloc(), name) else {
-        return Err(Failure::Refused("column_num_bytes"));
-    };
-    println!(rt; "column_num_bytes({name:?}): {}", size.0)?;
-    Ok(())
-}
-
-/// Prints the path that a name stands for.
-fn print_path<R: Print + AllocGlobal>(
-    rt: &R,
-    readers: &FastFieldReaders,
-    name: &str,
-) -> Result<(), Failure> {
-    let Ok(path) = readers.resolve_column_name_given_default_field(rt.alloc(), name, None) else {
-        return Err(Failure::Refused("resolve_column_name_given_default_field"));
-    };
-    println!(rt; "resolve_column_name_given_default_field({name:?}, None): {path:?}")?;
-    Ok(())
-}
-
-/// Prints the columns of the types that the path has.
-fn print_typed<R: Print + AllocGlobal>(rt: &R, readers: &FastFieldReaders) -> Result<(), Failure> {
-    print_column(rt, "i64", readers.i64(rt.alloc(), "json.foo"))?;
-    print_column(rt, "bool", readers.bool(rt.alloc(), "json.foo"))?;
-    match readers.column_opt::<i64>(rt.alloc(), "json.foo") {
-        Ok(Some(column)) => print_column(rt, "column_opt::<i64>", Ok(column)),
-        _ => Err(Failure::Refused("column_opt")),
+/// Adds how many columns a name has and which, and those below it.
+fn add_at(lines: &mut Lines, readers: &FastFieldReaders, what: &str, name: &str) {
+    match readers.dynamic_column_handles(lines.alloc(), name) {
+        Ok(handles) => add_handles(lines, what, &handles),
+        Err(_) => lines.miss(),
     }
 }
 
-/// Prints the columns of types that the path doesn't have.
-fn print_absent<R: Print + AllocGlobal>(rt: &R, readers: &FastFieldReaders) -> Result<(), Failure> {
-    print_column(rt, "u64", readers.u64(rt.alloc(), "json.foo"))?;
-    print_column(rt, "date", readers.date(rt.alloc(), "json.foo"))?;
-    print_column(rt, "ip_addr", readers.ip_addr(rt.alloc(), "json.foo"))
+fn add_below(lines: &mut Lines, readers: &FastFieldReaders) {
+    match readers.dynamic_subpath_column_handles(lines.alloc(), "json") {
+        Ok(handles) => add_handles(
+            lines,
+            "dynamic_subpath_column_handles(\"json\"), number of columns",
+            &handles,
+        ),
+        Err(_) => lines.miss(),
+    }
 }
 
-/// Prints the first value of a column, or the error that was answered in its place.
-fn print_column<R: Print, T: ColumnValue + Debug>(
-    rt: &R,
-    call: &str,
-    answer: TResult<Column<T>>,
-) -> Result<(), Failure> {
+/// Adds whether the path has a column of texts.
+fn add_handle(lines: &mut Lines, readers: &FastFieldReaders) {
+    match readers.dynamic_column_handle(lines.alloc(), "json.foo", ColumnType::Str) {
+        Ok(handle) => lines.add_answer(
+            "dynamic_column_handle(\"json.foo\", Str) is there",
+            &handle.is_some(),
+        ),
+        Err(_) => lines.miss(),
+    }
+}
+
+/// Adds how many bytes the columns of the path have, and the path that the name stands for.
+fn add_size_and_path(lines: &mut Lines, readers: &FastFieldReaders) {
+    let alloc = lines.alloc();
+    lines.add_result(
+        "column_num_bytes(\"json.foo\")",
+        readers.column_num_bytes(alloc, "json.foo"),
+    );
+    lines.add_result(
+        "resolve_column_name_given_default_field(\"json.foo\", None)",
+        readers.resolve_column_name_given_default_field(alloc, "json.foo", None),
+    );
+}
+
+/// Adds the first value of a column, or the error that was answered in its place.
+fn add_column<T: ColumnValue + Debug>(lines: &mut Lines, what: &str, answer: TResult<Column<T>>) {
     match answer {
-        Ok(column) => println!(rt; "{call}(\"json.foo\"): {:?}", first_value(&column))?,
-        Err(error) => println!(rt; "{call}(\"json.foo\"): {error}")?,
+        Ok(column) => lines.add_answer(what, &first_value(&column)),
+        Err(error) => lines.add_shown(what, &error),
     }
-    Ok(())
 }
 
-/// Prints the column of first values.
-fn print_first_alone<R: Print + AllocGlobal>(
-    rt: &R,
-    readers: &FastFieldReaders,
-) -> Result<(), Failure> {
-    let found = readers
-        .column_first_or_default::<i64>(rt.alloc(), "json.foo")
-        .is_ok();
-    println!(rt; "column_first_or_default::<i64>(\"json.foo\") is there: {found}")?;
-    let Ok(column) = readers.i64(rt.alloc(), "json.foo") else {
-        return Err(Failure::Refused("i64"));
-    };
+/// Adds the columns of the types that the path has.
+fn add_typed(lines: &mut Lines, readers: &FastFieldReaders) {
+    let alloc = lines.alloc();
+    add_column(lines, "i64(\"json.foo\")", readers.i64(alloc, "json.foo"));
+    add_column(lines, "bool(\"json.foo\")", readers.bool(alloc, "json.foo"));
+    match readers.column_opt::<i64>(alloc, "json.foo") {
+        Ok(Some(column)) => {
+            lines.add_answer("column_opt::<i64>(\"json.foo\")", &first_value(&column))
+        }
+        _ => lines.miss(),
+    }
+}
+
+/// Adds the columns of types that the path doesn't have.
+fn add_absent(lines: &mut Lines, readers: &FastFieldReaders) {
+    let alloc = lines.alloc();
+    add_column(lines, "u64(\"json.foo\")", readers.u64(alloc, "json.foo"));
+    add_column(lines, "date(\"json.foo\")", readers.date(alloc, "json.foo"));
+    add_column(
+        lines,
+        "ip_addr(\"json.foo\")",
+        readers.ip_addr(alloc, "json.foo"),
+    );
+}
+
+/// The first value by a column of first values.
+fn first_alone(alloc: Global, readers: &FastFieldReaders) -> TResult<Option<i64>> {
+    let column = readers.i64(alloc, "json.foo")?;
     if column.num_docs() == 0 {
-        return Err(Failure::Refused("i64"));
+        return Ok(None);
     }
-    let value = column.first_or_default_col(0).get_val(0);
-    println!(rt; "Column::first_or_default_col(0), ColumnFirstOrDefault::get_val(0): {value}")?;
-    Ok(())
+    Ok(Some(column.first_or_default_col(0).get_val(0)))
 }
 
-/// Prints the first text of the path, and that it has no byte strings.
-fn print_terms<R: Print + AllocGlobal>(rt: &R, readers: &FastFieldReaders) -> Result<(), Failure> {
-    let Ok(Some(texts)) = readers.str(rt.alloc(), "json.foo") else {
-        return Err(Failure::Refused("str"));
-    };
-    println!(rt; "str(\"json.foo\"), text(0): {:?}", texts.text(0))?;
-    let Ok(bytes) = readers.bytes(rt.alloc(), "json.foo") else {
-        return Err(Failure::Refused("bytes"));
-    };
-    println!(rt; "bytes(\"json.foo\") is there: {}", bytes.is_some())?;
-    Ok(())
+/// Adds the column of first values.
+fn add_first_alone(lines: &mut Lines, readers: &FastFieldReaders) {
+    let alloc = lines.alloc();
+    let is_there = readers
+        .column_first_or_default::<i64>(alloc, "json.foo")
+        .is_ok();
+    lines.add_answer(
+        "column_first_or_default::<i64>(\"json.foo\") is there",
+        &is_there,
+    );
+    lines.add_result(
+        "Column::first_or_default_col(0), ColumnFirstOrDefault::get_val(0)",
+        first_alone(alloc, readers),
+    );
 }
 
-/// Prints the columns as numbers.
-fn print_numbers<R: Print + AllocGlobal>(
-    rt: &R,
-    readers: &FastFieldReaders,
-) -> Result<(), Failure> {
-    let first = readers.u64_lenient(rt.alloc(), "json.foo");
-    print_lenient(rt, "u64_lenient(\"json.foo\")", first)?;
-    let types = [ColumnType::Str];
-    let texts = readers.u64_lenient_for_type(rt.alloc(), Some(&types), "json.foo");
-    print_lenient(rt, "u64_lenient_for_type([Str], \"json.foo\")", texts)?;
-    let Ok(all) = readers.u64_lenient_for_type_all(rt.alloc(), None, "json.foo") else {
-        return Err(Failure::Refused("u64_lenient_for_type_all"));
-    };
-    print_all_lenient(rt, &all)
+/// Adds the first text of the path, and that it has no byte strings.
+fn add_terms(lines: &mut Lines, readers: &FastFieldReaders) {
+    let alloc = lines.alloc();
+    match readers.str(alloc, "json.foo") {
+        Ok(Some(texts)) => lines.add_answer("str(\"json.foo\"), text(0)", &texts.text(0)),
+        _ => lines.miss(),
+    }
+    match readers.bytes(alloc, "json.foo") {
+        Ok(bytes) => lines.add_answer("bytes(\"json.foo\") is there", &bytes.is_some()),
+        Err(_) => lines.miss(),
+    }
 }
 
-/// Prints the first number of a column, and the type of its values.
-fn print_lenient<R: Print>(
-    rt: &R,
-    what: &str,
-    answer: TResult<Option<(Column<u64>, ColumnType)>>,
-) -> Result<(), Failure> {
-    let Ok(Some((column, column_type))) = answer else {
-        return Err(Failure::Refused("a column as numbers"));
-    };
-    println!(rt;
-        "{what}: {:?} in a column of {column_type:?}",
-        first_value(&column)
-    )?;
-    Ok(())
+/// Adds the first number of a column, and the type of its values.
+fn add_lenient(lines: &mut Lines, what: &str, answer: TResult<Option<(Column<u64>, ColumnType)>>) {
+    match answer {
+        Ok(Some((column, column_type))) => {
+            lines.add_answer(what, &(first_value(&column), column_type))
+        }
+        _ => lines.miss(),
+    }
 }
 
-fn print_all_lenient<R: Print>(
-    rt: &R,
-    columns: &[(Column<u64>, ColumnType)],
-) -> Result<(), Failure> {
-    println!(rt;
-        "u64_lenient_for_type_all(None, \"json.foo\"), number of columns: {}",
-        columns.len()
-    )?;
+fn add_all_lenient(lines: &mut Lines, columns: &[(Column<u64>, ColumnType)]) {
+    lines.add_answer(
+        "u64_lenient_for_type_all(None, \"json.foo\"), number of columns",
+        &columns.len(),
+    );
     for (column, column_type) in columns {
-        println!(rt; "  {column_type:?}: {:?}", first_value(column))?;
+        lines.add_answer(
+            "  first number and type",
+            &(first_value(column), column_type),
+        );
     }
-    Ok(())
 }
 
-/// Prints the error of a field that isn't fast.
-fn print_not_available<R: Print + AllocGlobal>(rt: &R) -> Result<(), Failure> {
-    let entry = entry(rt.alloc(), "title", FieldKind::Text, IndexOption::No)?;
-    let Ok(error) = FastFieldNotAvailableError::new(rt.alloc(), &entry) else {
-        return Err(Failure::Refused("FastFieldNotAvailableError::new"));
-    };
-    println!(rt; "FastFieldNotAvailableError of the field title: {error}")?;
-    Ok(())
+/// Adds the columns as numbers.
+fn add_numbers(lines: &mut Lines, readers: &FastFieldReaders) {
+    let alloc = lines.alloc();
+    add_lenient(
+        lines,
+        "u64_lenient(\"json.foo\"), first number and type",
+        readers.u64_lenient(alloc, "json.foo"),
+    );
+    add_lenient(
+        lines,
+        "u64_lenient_for_type([Str], \"json.foo\"), first number and type",
+        readers.u64_lenient_for_type(alloc, Some(&[ColumnType::Str]), "json.foo"),
+    );
+    match readers.u64_lenient_for_type_all(alloc, None, "json.foo") {
+        Ok(columns) => add_all_lenient(lines, &columns),
+        Err(_) => lines.miss(),
+    }
+}
+
+fn add_handles_of(lines: &mut Lines, readers: &FastFieldReaders) {
+    let what = "dynamic_column_handles(\"json.foo\"), number of columns";
+    add_at(lines, readers, what, "json.foo");
+    let what = "dynamic_column_handles(\"json\"), number of columns";
+    add_at(lines, readers, what, "json");
+    add_below(lines, readers);
+    add_handle(lines, readers);
+    add_size_and_path(lines, readers);
+}
+
+fn add_readers(lines: &mut Lines, readers: &FastFieldReaders) {
+    add_handles_of(lines, readers);
+    add_typed(lines, readers);
+    add_first_alone(lines, readers);
+    add_terms(lines, readers);
+    add_absent(lines, readers);
+    add_numbers(lines, readers);
+}
+
+/// The error of a field of texts that isn't fast.
+fn not_available(alloc: Global) -> TResult<FastFieldNotAvailableError> {
+    let entry = entry(alloc, "title", FieldKind::Text, IndexOption::No)?;
+    FastFieldNotAvailableError::new(alloc, &entry)
+}
+
+pub(crate) fn add_fast_fields(lines: &mut Lines) {
+    let alloc = lines.alloc();
+    lines.add("FastFieldReaders of a document with 42, \"bar\" and true at json.foo:");
+    match readers(alloc) {
+        Ok(readers) => add_readers(lines, &readers),
+        Err(_) => lines.miss(),
+    }
+    match not_available(alloc) {
+        Ok(error) => lines.add_shown("FastFieldNotAvailableError of the field title", &error),
+        Err(_) => lines.miss(),
+    }
 }

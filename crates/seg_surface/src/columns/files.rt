@@ -1,9 +1,9 @@
 //! Files of columns, from bytes that were written by hand.
 
-use crate::columns::answers::print_handles;
-use crate::failure::Failure;
+use crate::columns::answers::add_handles;
+use crate::lines::Lines;
+use crate::samples::file;
 use seg_column_file::{ColumnError, ColumnarReader, rows_without_columns};
-use seg_common::OwnedBytes;
 use std::alloc::Global;
 
 /// Two documents, of which the first has the number 5 in the column `n`.
@@ -30,39 +30,41 @@ const NO_COLUMN: [u8; 24] = [
 ];
 
 pub(crate) fn open(alloc: Global, bytes: &[u8]) -> Result<ColumnarReader, ColumnError> {
-    let Ok(bytes) = OwnedBytes::new(alloc, bytes) else {
-        return Err(ColumnError::OutOfMemory);
-    };
-    ColumnarReader::open(alloc, bytes)
+    ColumnarReader::open(alloc, file(alloc, bytes)?)
 }
 
-pub(crate) fn print_files<R: Print + AllocGlobal>(rt: &R) -> Result<(), Failure> {
-    println!(rt; "a file of two documents, of which the first has the number 5 in the column n:")?;
-    print_columns_of_one(rt)?;
-    print_rows(rt, "three documents and no column", NO_COLUMN.as_slice())?;
-    print_rows(rt, "the file with the column n", ONE.as_slice())
+fn add_columns(lines: &mut Lines, reader: &ColumnarReader) {
+    let alloc = lines.alloc();
+    match reader.read_columns(alloc, "n") {
+        Ok(handles) => add_handles(
+            lines,
+            "ColumnarReader::read_columns(\"n\"), number of columns",
+            &handles,
+        ),
+        Err(_) => lines.miss(),
+    }
+    match reader.read_subpath_columns(alloc, "n") {
+        Ok(handles) => add_handles(
+            lines,
+            "ColumnarReader::read_subpath_columns(\"n\"), number of columns",
+            &handles,
+        ),
+        Err(_) => lines.miss(),
+    }
 }
 
-fn print_columns_of_one<R: Print + AllocGlobal>(rt: &R) -> Result<(), Failure> {
-    let reader = open(rt.alloc(), ONE.as_slice())?;
-    print_at(rt, &reader)?;
-    print_below(rt, &reader)
-}
-
-fn print_at<R: Print + AllocGlobal>(rt: &R, reader: &ColumnarReader) -> Result<(), Failure> {
-    let handles = reader.read_columns(rt.alloc(), "n")?;
-    print_handles(rt, "ColumnarReader::read_columns", "n", &handles)
-}
-
-fn print_below<R: Print + AllocGlobal>(rt: &R, reader: &ColumnarReader) -> Result<(), Failure> {
-    let handles = reader.read_subpath_columns(rt.alloc(), "n")?;
-    print_handles(rt, "ColumnarReader::read_subpath_columns", "n", &handles)
-}
-
-fn print_rows<R: Print>(rt: &R, what: &str, file: &[u8]) -> Result<(), Failure> {
-    println!(rt;
-        "rows_without_columns of {what}: {:?}",
-        rows_without_columns(file)
-    )?;
-    Ok(())
+pub(crate) fn add_files(lines: &mut Lines) {
+    lines.add("a file of two documents, of which the first has the number 5 in the column n:");
+    match open(lines.alloc(), ONE.as_slice()) {
+        Ok(reader) => add_columns(lines, &reader),
+        Err(_) => lines.miss(),
+    }
+    lines.add_answer(
+        "rows_without_columns of three documents and no column",
+        &rows_without_columns(NO_COLUMN.as_slice()),
+    );
+    lines.add_answer(
+        "rows_without_columns of the file with the column n",
+        &rows_without_columns(ONE.as_slice()),
+    );
 }

@@ -1,8 +1,9 @@
 //! Columns of texts that are opened from bytes which were written by hand.
 
-use crate::failure::Failure;
-use seg_columns::{BytesColumn, Column, Dictionary, DynamicColumnHandle, StrColumn};
-use seg_common::{ColumnType, OwnedBytes};
+use crate::lines::Lines;
+use crate::samples::file;
+use seg_columns::{BytesColumn, Column, ColumnError, Dictionary, DynamicColumnHandle, StrColumn};
+use seg_common::ColumnType;
 use seg_fastfield::FacetReader;
 use std::alloc::Global;
 
@@ -19,104 +20,109 @@ const TEXTS: &[u8] = &[
     b'a', b'b', // their bytes
 ];
 
-pub(crate) fn print_texts<R: Print + AllocGlobal>(rt: &R) -> Result<(), Failure> {
-    println!(rt; "a column of two documents, of which one has the texts b and a, the other b:")?;
-    print_str_column(rt)?;
-    print_bytes_column(rt)?;
-    print_handle(rt)?;
-    print_facets(rt)
+fn str_column(alloc: Global) -> Result<StrColumn, ColumnError> {
+    StrColumn::open(alloc, &file(alloc, TEXTS)?, 2)
 }
 
-fn owned(alloc: Global) -> Result<OwnedBytes, Failure> {
-    Ok(OwnedBytes::new(alloc, TEXTS)?)
+fn bytes_column(alloc: Global) -> Result<BytesColumn, ColumnError> {
+    BytesColumn::open(alloc, &file(alloc, TEXTS)?, 2)
 }
 
-fn print_str_column<R: Print + AllocGlobal>(rt: &R) -> Result<(), Failure> {
-    let column = StrColumn::open(rt.alloc(), &owned(rt.alloc())?, 2)?;
-    print_str(rt, &column, 0)?;
-    print_str(rt, &column, 1)?;
-    print_str(rt, &column, 2)
-}
-
-fn print_str<R: Print + AllocGlobal>(rt: &R, column: &StrColumn, ord: u64) -> Result<(), Failure> {
-    let mut text = String::new(rt.alloc());
+/// Whether an ordinal has a text, and the text.
+fn text_at(alloc: Global, column: &StrColumn, ord: u64) -> Result<(bool, String), ColumnError> {
+    let mut text = String::new(alloc);
     let found = column.ord_to_str(ord, &mut text)?;
-    println!(rt; "StrColumn::ord_to_str({ord}): {found}, {text:?}")?;
-    Ok(())
+    Ok((found, text))
 }
 
-fn print_bytes_column<R: Print + AllocGlobal>(rt: &R) -> Result<(), Failure> {
-    let column = BytesColumn::open(rt.alloc(), &owned(rt.alloc())?, 2)?;
-    print_byte_string(rt, &column, 0)?;
-    print_byte_string(rt, &column, 1)?;
-    print_byte_string(rt, &column, 2)
+fn add_str_column(lines: &mut Lines, column: &StrColumn) {
+    let alloc = lines.alloc();
+    lines.add_result("StrColumn::ord_to_str(0)", text_at(alloc, column, 0));
+    lines.add_result("StrColumn::ord_to_str(1)", text_at(alloc, column, 1));
+    lines.add_result("StrColumn::ord_to_str(2)", text_at(alloc, column, 2));
 }
 
-fn print_byte_string<R: Print + AllocGlobal>(
-    rt: &R,
-    column: &BytesColumn,
-    ord: u64,
-) -> Result<(), Failure> {
-    let mut bytes = Vec::new(rt.alloc());
+/// Whether an ordinal has a byte string, and it.
+fn bytes_at(alloc: Global, column: &BytesColumn, ord: u64) -> Result<(bool, Vec<u8>), ColumnError> {
+    let mut bytes = Vec::new(alloc);
     let found = column.ord_to_bytes(ord, &mut bytes)?;
-    println!(rt; "BytesColumn::ord_to_bytes({ord}): {found}, {bytes:?}")?;
-    Ok(())
+    Ok((found, bytes))
 }
 
-fn print_handle<R: Print + AllocGlobal>(rt: &R) -> Result<(), Failure> {
-    let bytes = owned(rt.alloc())?;
-    let handle = DynamicColumnHandle::new(rt.alloc(), ColumnType::Str, bytes, 2)?;
-    match handle.open_u64_lenient() {
-        Some(numbers) => print_numbers(rt, "DynamicColumnHandle::open_u64_lenient", &numbers),
-        None => Err(Failure::Refused("DynamicColumnHandle::open_u64_lenient")),
-    }
+fn add_bytes_column(lines: &mut Lines, column: &BytesColumn) {
+    let alloc = lines.alloc();
+    lines.add_result("BytesColumn::ord_to_bytes(0)", bytes_at(alloc, column, 0));
+    lines.add_result("BytesColumn::ord_to_bytes(1)", bytes_at(alloc, column, 1));
+    lines.add_result("BytesColumn::ord_to_bytes(2)", bytes_at(alloc, column, 2));
 }
 
-/// Prints the numbers of each document.
-fn print_numbers<R: Print>(rt: &R, what: &str, column: &Column<u64>) -> Result<(), Failure> {
-    println!(rt; "{what}, number of documents: {}", column.num_docs())?;
+fn numbers(alloc: Global) -> Result<Option<Column<u64>>, ColumnError> {
+    let handle = DynamicColumnHandle::new(alloc, ColumnType::Str, file(alloc, TEXTS)?, 2)?;
+    Ok(handle.open_u64_lenient())
+}
+
+/// Adds the numbers of each document.
+fn add_numbers(lines: &mut Lines, column: &Column<u64>) {
+    lines.add_answer(
+        "DynamicColumnHandle::open_u64_lenient, number of documents",
+        &column.num_docs(),
+    );
     for document in 0..column.num_docs() {
         for number in column.values_for_doc(document) {
-            println!(rt; "  document {document}: {number}")?;
+            lines.add_answer("  document and number", &(document, number));
         }
     }
-    Ok(())
 }
 
-/// Prints what a reader of facets says of the same texts.
-fn print_facets<R: Print + AllocGlobal>(rt: &R) -> Result<(), Failure> {
-    let column = StrColumn::open(rt.alloc(), &owned(rt.alloc())?, 2)?;
+/// Adds what a reader of facets says of the same texts.
+fn add_facets(lines: &mut Lines, column: StrColumn) {
     let documents = column.ords().num_docs();
     let facets = FacetReader::new(column);
-    println!(rt; "FacetReader::num_facets: {}", facets.num_facets())?;
+    lines.add_answer("FacetReader::num_facets", &facets.num_facets());
     for document in 0..documents {
         for ord in facets.facet_ords(document) {
-            println!(rt; "FacetReader::facet_ords({document}): {ord}")?;
+            lines.add_answer(
+                "FacetReader::facet_ords, document and ordinal",
+                &(document, ord),
+            );
         }
     }
-    print_dictionary(rt, facets.facet_dict())
+    add_dictionary(lines, facets.facet_dict());
 }
 
-fn print_dictionary<R: Print>(rt: &R, dictionary: &Dictionary) -> Result<(), Failure> {
-    println!(rt;
-        "FacetReader::facet_dict, number of terms: {}",
-        dictionary.num_terms()
-    )?;
-    println!(rt;
-        "Dictionary::term_ord(\"a\"): {:?}",
-        dictionary.term_ord(b"a")
-    )?;
-    println!(rt;
-        "Dictionary::term_ord(\"b\"): {:?}",
-        dictionary.term_ord(b"b")
-    )?;
-    println!(rt;
-        "Dictionary::term_ord(\"c\"): {:?}",
-        dictionary.term_ord(b"c")
-    )?;
-    println!(rt;
-        "Dictionary::ord_to_term(1): {:?}",
-        dictionary.ord_to_term(1)
-    )?;
-    Ok(())
+fn add_dictionary(lines: &mut Lines, dictionary: &Dictionary) {
+    lines.add_answer(
+        "FacetReader::facet_dict, number of terms",
+        &dictionary.num_terms(),
+    );
+    lines.add_answer("Dictionary::term_ord(\"a\")", &dictionary.term_ord(b"a"));
+    lines.add_answer("Dictionary::term_ord(\"b\")", &dictionary.term_ord(b"b"));
+    lines.add_answer("Dictionary::term_ord(\"c\")", &dictionary.term_ord(b"c"));
+    lines.add_answer("Dictionary::ord_to_term(1)", &dictionary.ord_to_term(1));
+}
+
+fn add_columns(lines: &mut Lines) {
+    let alloc = lines.alloc();
+    match str_column(alloc) {
+        Ok(column) => add_str_column(lines, &column),
+        Err(_) => lines.miss(),
+    }
+    match bytes_column(alloc) {
+        Ok(column) => add_bytes_column(lines, &column),
+        Err(_) => lines.miss(),
+    }
+}
+
+pub(crate) fn add_texts(lines: &mut Lines) {
+    let alloc = lines.alloc();
+    lines.add("a column of two documents, of which one has the texts b and a, the other b:");
+    add_columns(lines);
+    match numbers(alloc) {
+        Ok(Some(numbers)) => add_numbers(lines, &numbers),
+        _ => lines.miss(),
+    }
+    match str_column(alloc) {
+        Ok(column) => add_facets(lines, column),
+        Err(_) => lines.miss(),
+    }
 }

@@ -3,56 +3,13 @@ ghost use Rattle.std.specs.Prelude.{◌≡◌, [], OnOk};
 ghost use Rattle.std.specs.List.{AllByRecursion};
 ghost use Rattle.seg_column_writer.specs.TypedColumns.{IsWithin};
 
-use crate::columns::answers::print_file;
 use crate::columns::files::open;
-use crate::failure::Failure;
+use crate::lines::Lines;
 use seg_column_writer::{ColumnarWriter, NumericalValue, ValueKind};
 use seg_columns::{Column, ColumnError, DynamicColumn, DynamicColumnHandle};
 use seg_common::{ColumnType, DateTime};
 use std::alloc::Global;
 use std::net::Ipv6Addr;
-
-pub(crate) fn print_writing<R: Print + AllocGlobal>(rt: &R) -> Result<(), Failure> {
-    println!(rt; "ColumnarWriter, what was recorded and the file of `serialize`:")?;
-    print_numbers(rt)?;
-    print_values(rt)?;
-    print_terms(rt)?;
-    print_sparse(rt)
-}
-
-fn print_numbers<R: Print + AllocGlobal>(rt: &R) -> Result<(), Failure> {
-    let what = "record_numerical(0, \"n\", I64(5)), 2 rows";
-    print_file(rt, what, number(rt.alloc()))?;
-    let what = "record_numerical_in(0, column(\"n\", Number), I64(5)), 2 rows";
-    print_file(rt, what, number_by_column(rt.alloc()))
-}
-
-fn print_values<R: Print + AllocGlobal>(rt: &R) -> Result<(), Failure> {
-    print_file(rt, "record_bool(0, \"b\", true), 1 row", truth(rt.alloc()))?;
-    print_file(
-        rt,
-        "record_datetime(0, \"d\", 1 ns), 1 row",
-        moment(rt.alloc()),
-    )?;
-    print_file(
-        rt,
-        "record_ip_addr(0, \"i\", ::1), 1 row",
-        address(rt.alloc()),
-    )
-}
-
-fn print_terms<R: Print + AllocGlobal>(rt: &R) -> Result<(), Failure> {
-    print_file(
-        rt,
-        "record_bytes(0, \"x\", ff), 1 row",
-        byte_string(rt.alloc()),
-    )?;
-    let what =
-        "record_column_type(\"t\", Str, sorted), record_str(0, \"t\", \"b\") and \"a\", 1 row";
-    print_file(rt, what, texts(rt.alloc()))?;
-    let what = "record_str(0, \"t\", \"abc\"), (0, \"t\", \"ab\"), (2, \"t\", \"ab\"), 3 rows";
-    print_file(rt, what, shared(rt.alloc()))
-}
 
 fn number(alloc: Global) -> Result<Vec<u8>, ColumnError> {
     let mut writer = ColumnarWriter::new(alloc);
@@ -132,30 +89,67 @@ fn sparse(alloc: Global) -> Result<Vec<u8>, ColumnError> {
     writer.serialize(1000)
 }
 
-fn print_sparse<R: Print + AllocGlobal>(rt: &R) -> Result<(), Failure> {
-    println!(rt; "record_numerical(500, \"n\", I64(7)), 1000 rows, read back:")?;
-    let file = sparse(rt.alloc())?;
-    let reader = open(rt.alloc(), file.as_slice())?;
-    let handles = reader.read_columns(rt.alloc(), "n")?;
-    print_numbers_of(rt, &handles)
+fn sparse_columns(alloc: Global) -> Result<Vec<DynamicColumnHandle>, ColumnError> {
+    let file = sparse(alloc)?;
+    let reader = open(alloc, file.as_slice())?;
+    reader.read_columns(alloc, "n")
 }
 
-fn print_numbers_of<R: Print>(rt: &R, handles: &[DynamicColumnHandle]) -> Result<(), Failure> {
-    for handle in handles {
-        match handle.open() {
-            DynamicColumn::I64(numbers) => print_rows_with_values(rt, &numbers)?,
-            _ => return Err(Failure::Refused("a column of another type")),
-        }
-    }
-    Ok(())
-}
-
-fn print_rows_with_values<R: Print>(rt: &R, column: &Column<i64>) -> Result<(), Failure> {
-    println!(rt; "Column::num_docs: {}", column.num_docs())?;
+fn add_rows_with_values(lines: &mut Lines, column: &Column<i64>) {
+    lines.add_answer("Column::num_docs", &column.num_docs());
     for row in 0..column.num_docs() {
         if let Some(value) = column.first(row) {
-            println!(rt; "Column::first({row}): {value}")?;
+            lines.add_answer("a row, and Column::first of it", &(row, value));
         }
     }
-    Ok(())
+}
+
+fn add_sparse(lines: &mut Lines, handles: &[DynamicColumnHandle]) {
+    for handle in handles {
+        match handle.open() {
+            DynamicColumn::I64(numbers) => add_rows_with_values(lines, &numbers),
+            _ => lines.miss(),
+        }
+    }
+}
+
+fn add_numbers(lines: &mut Lines) {
+    let alloc = lines.alloc();
+    lines.add_file("record_numerical(0, \"n\", I64(5)), 2 rows", number(alloc));
+    lines.add_file(
+        "record_numerical_in(0, column(\"n\", Number), I64(5)), 2 rows",
+        number_by_column(alloc),
+    );
+}
+
+fn add_values(lines: &mut Lines) {
+    let alloc = lines.alloc();
+    lines.add_file("record_bool(0, \"b\", true), 1 row", truth(alloc));
+    lines.add_file("record_datetime(0, \"d\", 1 ns), 1 row", moment(alloc));
+    lines.add_file("record_ip_addr(0, \"i\", ::1), 1 row", address(alloc));
+}
+
+fn add_terms(lines: &mut Lines) {
+    let alloc = lines.alloc();
+    lines.add_file("record_bytes(0, \"x\", ff), 1 row", byte_string(alloc));
+    lines.add_file(
+        "record_column_type(\"t\", Str, sorted), record_str(0, \"t\", \"b\") and \"a\", 1 row",
+        texts(alloc),
+    );
+    lines.add_file(
+        "record_str(0, \"t\", \"abc\"), (0, \"t\", \"ab\"), (2, \"t\", \"ab\"), 3 rows",
+        shared(alloc),
+    );
+}
+
+pub(crate) fn add_written_files(lines: &mut Lines) {
+    lines.add("ColumnarWriter, what was recorded and the file of `serialize`:");
+    add_numbers(lines);
+    add_values(lines);
+    add_terms(lines);
+    lines.add("record_numerical(500, \"n\", I64(7)), 1000 rows, read back:");
+    match sparse_columns(lines.alloc()) {
+        Ok(handles) => add_sparse(lines, &handles),
+        Err(_) => lines.miss(),
+    }
 }

@@ -2,8 +2,8 @@
 ghost use Rattle.std.specs.Prelude.{◌≡◌, IfOk};
 
 use super::indices::{StoredIndex, index_of, index_of_text, opened};
-use super::metadata::{print_entries, print_entry, together};
-use crate::failure::Failure;
+use super::metadata::{add_entries, add_entry, together};
+use crate::lines::Lines;
 use crate::samples::{document, entry};
 use seg_field_metadata::{FieldMetadata, fields_metadata};
 use seg_tokens::Text;
@@ -12,11 +12,6 @@ use seg_values::{
     TantivyDocument,
 };
 use std::alloc::{AllocError, Global};
-
-/// The attributes of two articles.
-const ONE: &str = r#"{"k.x": "a"}"#;
-
-const OTHER: &str = r#"{"n": 5}"#;
 
 /// A JSON field with terms and columns.
 fn attributes(alloc: Global) -> Result<FieldEntry, AllocError>
@@ -90,37 +85,33 @@ fn title_says(alloc: Global) -> TResult<Vec<FieldMetadata>> {
     said_by(alloc, index_of_text(alloc, "title", "a")?)
 }
 
-fn print_copy<R: Print + AllocGlobal>(rt: &R, entry: &FieldMetadata) -> Result<(), Failure> {
-    match entry.try_clone(rt.alloc()) {
-        Ok(copy) => print_entry(rt, &copy),
-        Err(_) => Err(Failure::OutOfMemory),
-    }
-}
-
-fn print_copies<R: Print + AllocGlobal>(rt: &R, entries: &[FieldMetadata]) -> Result<(), Failure> {
-    println!(rt; "FieldMetadata::try_clone of each:")?;
+fn add_copies(lines: &mut Lines, entries: &[FieldMetadata]) {
+    lines.add("FieldMetadata::try_clone of each:");
     for entry in entries {
-        print_copy(rt, entry)?;
+        match entry.try_clone(lines.alloc()) {
+            Ok(copy) => add_entry(lines, &copy),
+            Err(_) => lines.miss(),
+        }
     }
-    Ok(())
 }
 
-fn print_title<R: Print + AllocGlobal>(rt: &R) -> Result<(), Failure> {
-    println!(rt; "fields_metadata of the title \"a\":")?;
-    let Ok(said) = title_says(rt.alloc()) else {
-        return Err(Failure::Refused("fields_metadata"));
-    };
-    print_entries(rt, &said)?;
-    print_copies(rt, &said)
+fn add_title(lines: &mut Lines, said: &[FieldMetadata]) {
+    lines.add("fields_metadata of the title \"a\":");
+    add_entries(lines, said);
+    add_copies(lines, said);
 }
 
-pub(super) fn print_described<R: Print + AllocGlobal>(rt: &R) -> Result<(), Failure> {
-    print_title(rt)?;
-    println!(rt;
-        "merge_field_meta_data of two segments, of the title \"a\" with the \"attrs\" {ONE} and {OTHER}:"
-    )?;
-    let Ok(said) = said_together(rt.alloc()) else {
-        return Err(Failure::Refused("merge_field_meta_data"));
-    };
-    print_entries(rt, &said)
+pub(super) fn add_described_fields(lines: &mut Lines) {
+    let alloc = lines.alloc();
+    match title_says(alloc) {
+        Ok(said) => add_title(lines, &said),
+        Err(_) => lines.miss(),
+    }
+    lines.add(
+        "merge_field_meta_data of two segments, of the title \"a\" with the \"attrs\" {\"k.x\": \"a\"} and {\"n\": 5}:",
+    );
+    match said_together(alloc) {
+        Ok(said) => add_entries(lines, &said),
+        Err(_) => lines.miss(),
+    }
 }

@@ -1,6 +1,6 @@
 //! Whether a field has columns and terms, by what is known of it.
 
-use crate::failure::Failure;
+use crate::lines::Lines;
 use seg_common::ByteCount;
 use seg_field_metadata::FieldMetadata;
 use seg_values::FieldType;
@@ -19,15 +19,23 @@ fn known(alloc: Global, fast_size: Option<ByteCount>) -> Result<FieldMetadata, A
     })
 }
 
-fn print_known<R: Print>(rt: &R, what: &str, known: &FieldMetadata) -> Result<(), Failure> {
-    let (fast, indexed) = (known.is_fast(), known.is_indexed());
-    println!(rt; "FieldMetadata with {what}, is_fast: {fast}, is_indexed: {indexed}")?;
-    Ok(())
+fn add_known(lines: &mut Lines, what: &str, known: Result<FieldMetadata, AllocError>) {
+    match known {
+        Ok(known) => lines.add_answer(what, &(known.is_fast(), known.is_indexed())),
+        Err(_) => lines.miss(),
+    }
 }
 
-pub(super) fn print_known_parts<R: Print + AllocGlobal>(rt: &R) -> Result<(), Failure> {
-    let columns = known(rt.alloc(), Some(ByteCount(16)))?;
-    print_known(rt, "a fast_size of 16 and no other size", &columns)?;
-    let nothing = known(rt.alloc(), None)?;
-    print_known(rt, "no size", &nothing)
+pub(super) fn add_known_parts(lines: &mut Lines) {
+    let alloc = lines.alloc();
+    add_known(
+        lines,
+        "FieldMetadata with a fast_size of 16 and no other size, is_fast and is_indexed",
+        known(alloc, Some(ByteCount(16))),
+    );
+    add_known(
+        lines,
+        "FieldMetadata with no size, is_fast and is_indexed",
+        known(alloc, None),
+    );
 }

@@ -4,7 +4,7 @@ ghost use Rattle.seg_store.specs.Store.{document_count};
 
 use super::indices::{StoredIndex, index_of_text, opened};
 use super::work_index::work_index;
-use crate::failure::Failure;
+use crate::lines::Lines;
 use crate::samples::memory;
 use seg_common::SegmentId;
 use seg_directory::MemoryDirectory;
@@ -84,40 +84,41 @@ fn merged_with_itself(alloc: Global) -> TResult<SegmentReader> {
     opened(alloc, merged(alloc, first, second)?)
 }
 
-fn print_documents<R: Print + AllocGlobal>(rt: &R, reader: &SegmentReader) -> Result<(), Failure> {
+fn add_documents(lines: &mut Lines, reader: &SegmentReader) {
     let store = reader.store_reader();
     for id in 0..store.num_docs() {
-        let line = line(rt.alloc(), reader.schema(), store, id)?;
-        println!(rt; "  {line}")?;
+        lines.add_text_result(
+            "  a document",
+            line(lines.alloc(), reader.schema(), store, id),
+        );
     }
-    Ok(())
 }
 
-fn print_twice<R: Print + AllocGlobal>(rt: &R, reader: &SegmentReader) -> Result<(), Failure> {
-    print_documents(rt, reader)?;
-    for text in ["b", "c"] {
-        let documents = documents_with(reader, text);
-        println!(rt; "  terms().get of \"{text}\", doc_freq: {documents:?}")?;
+fn add_twice(lines: &mut Lines, reader: &SegmentReader) {
+    add_documents(lines, reader);
+    lines.add_answer(
+        "  terms().get of \"b\", doc_freq",
+        &documents_with(reader, "b"),
+    );
+    lines.add_answer(
+        "  terms().get of \"c\", doc_freq",
+        &documents_with(reader, "c"),
+    );
+}
+
+pub(super) fn add_merged_indices(lines: &mut Lines) {
+    let alloc = lines.alloc();
+    lines.add("merge_indices of the titles \"a b\" and \"b\", and of that and \"b c\":");
+    match merged_twice(alloc) {
+        Ok(reader) => add_twice(lines, &reader),
+        Err(_) => lines.miss(),
     }
-    Ok(())
-}
-
-fn print_merged_twice<R: Print + AllocGlobal>(rt: &R) -> Result<(), Failure> {
-    println!(rt; "merge_indices of the titles \"a b\" and \"b\", and of that and \"b c\":")?;
-    let Ok(reader) = merged_twice(rt.alloc()) else {
-        return Err(Failure::Refused("merge_indices"));
-    };
-    print_twice(rt, &reader)
-}
-
-pub(super) fn print_merging<R: Print + AllocGlobal>(rt: &R) -> Result<(), Failure> {
-    print_merged_twice(rt)?;
-    println!(rt;
-        "build_index of the titles \"some text 1\" to \"some text 4\" in two batches, with a delete of \"4\","
-    )?;
-    println!(rt; "and merge_indices of its work index with another of the same:")?;
-    let Ok(reader) = merged_with_itself(rt.alloc()) else {
-        return Err(Failure::Refused("merge_indices"));
-    };
-    print_documents(rt, &reader)
+    lines.add(
+        "build_index of the titles \"some text 1\" to \"some text 4\" in two batches, with a delete of \"4\",",
+    );
+    lines.add("and merge_indices of its work index with another of the same:");
+    match merged_with_itself(alloc) {
+        Ok(reader) => add_documents(lines, &reader),
+        Err(_) => lines.miss(),
+    }
 }

@@ -1,30 +1,30 @@
 //! Metadata of fields, printed, and of several segments together.
 
-use crate::failure::Failure;
+use crate::lines::Lines;
 use seg_field_metadata::{FieldMetadata, merge_field_meta_data};
 use seg_values::TResult;
 use std::alloc::{AllocError, Global};
 
-/// Prints an entry: name and type, whether it is stored, and the sizes of its columns, terms, postings and positions.
-pub(super) fn print_entry<R: Print>(rt: &R, entry: &FieldMetadata) -> Result<(), Failure> {
-    let name = entry.field_name.as_str();
-    let typ = entry.typ;
-    let stored = entry.stored;
-    let fast = entry.fast_size;
-    let terms = entry.term_dictionary_size;
-    let postings = entry.postings_size;
-    let places = entry.positions_size;
-    println!(rt;
-        "  {name} {typ:?}: stored {stored}, fast {fast:?}, terms {terms:?}, postings {postings:?}, positions {places:?}"
-    )?;
-    Ok(())
+/// Adds an entry: name and type, whether it is stored, and the sizes of its columns, terms, postings and positions.
+pub(super) fn add_entry(lines: &mut Lines, entry: &FieldMetadata) {
+    lines.add_answer(
+        "  name, type, stored, and sizes of columns, terms, postings and positions",
+        &(
+            entry.field_name.as_str(),
+            entry.typ,
+            entry.stored,
+            entry.fast_size,
+            entry.term_dictionary_size,
+            entry.postings_size,
+            entry.positions_size,
+        ),
+    );
 }
 
-pub(super) fn print_entries<R: Print>(rt: &R, entries: &[FieldMetadata]) -> Result<(), Failure> {
+pub(super) fn add_entries(lines: &mut Lines, entries: &[FieldMetadata]) {
     for entry in entries {
-        print_entry(rt, entry)?;
+        add_entry(lines, entry);
     }
-    Ok(())
 }
 
 fn push(lists: &mut Vec<Vec<FieldMetadata>>, list: Vec<FieldMetadata>) -> Result<(), AllocError> {

@@ -2,7 +2,7 @@
 
 use super::indices::{StoredIndex, index_of_text};
 use super::merged_indices::merged;
-use crate::failure::Failure;
+use crate::lines::Lines;
 use crate::samples::{memory, schema, settings};
 use seg_common::SegmentId;
 use seg_directory::MemoryDirectory;
@@ -51,17 +51,19 @@ fn fields(alloc: Global, first: &str, second: &str) -> TResult<StoredIndex> {
     merged(alloc, first, index_of_text(alloc, second, "a")?)
 }
 
-pub(super) fn print_refusing<R: Print + AllocGlobal>(rt: &R) -> Result<(), Failure> {
-    let alloc = rt.alloc();
-    let none = no_index(alloc).err();
-    println!(rt; "merge_indices of no index: {none:?}")?;
-    let empty = empty_indices(alloc, 1, 1).err();
-    println!(rt; "merge_indices of two without a segment: {empty:?}")?;
-    let unlike = empty_indices(alloc, 1, 2).err();
-    println!(rt; "merge_indices of two with blocks of 1 and of 2 bytes: {unlike:?}")?;
-    let fields = fields(alloc, "title", "body").err();
-    println!(rt;
-        "merge_indices of two with the field \"title\" and the field \"body\": {fields:?}"
-    )?;
-    Ok(())
+pub(super) fn add_refused_indices(lines: &mut Lines) {
+    let alloc = lines.alloc();
+    lines.add_answer("merge_indices of no index", &no_index(alloc).err());
+    lines.add_answer(
+        "merge_indices of two without a segment",
+        &empty_indices(alloc, 1, 1).err(),
+    );
+    lines.add_answer(
+        "merge_indices of two with blocks of 1 and of 2 bytes",
+        &empty_indices(alloc, 1, 2).err(),
+    );
+    lines.add_answer(
+        "merge_indices of two with the field \"title\" and the field \"body\"",
+        &fields(alloc, "title", "body").err(),
+    );
 }

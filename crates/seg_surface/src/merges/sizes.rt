@@ -1,10 +1,10 @@
 //! Sums of sizes.
 
-use super::metadata::{print_entries, together};
-use crate::failure::Failure;
+use super::metadata::{add_entries, together};
+use crate::lines::Lines;
 use seg_common::ByteCount;
 use seg_field_metadata::FieldMetadata;
-use seg_values::{FieldType, TResult, TantivyError};
+use seg_values::{FieldType, TResult};
 use std::alloc::{AllocError, Global};
 
 /// The sizes of columns, terms, postings and positions.
@@ -38,23 +38,18 @@ fn sum(alloc: Global, first: Sizes, second: Sizes) -> TResult<Vec<FieldMetadata>
     together(alloc, first, second)
 }
 
-fn print_sum<R: Print + AllocGlobal>(rt: &R, first: Sizes, second: Sizes) -> Result<(), Failure> {
-    println!(rt; "merge_field_meta_data of the sizes {first:?} and {second:?}:")?;
-    match sum(rt.alloc(), first, second) {
-        Ok(sum) => print_entries(rt, &sum),
-        Err(e) => print_refusal(rt, e),
+fn add_sum(lines: &mut Lines, first: Sizes, second: Sizes) {
+    lines.add_answer("merge_field_meta_data of the sizes", &(first, second));
+    match sum(lines.alloc(), first, second) {
+        Ok(sum) => add_entries(lines, &sum),
+        Err(refusal) => lines.add_shown("  refused", &refusal),
     }
 }
 
-fn print_refusal<R: Print>(rt: &R, refusal: TantivyError) -> Result<(), Failure> {
-    println!(rt; "  {refusal}")?;
-    Ok(())
-}
-
-pub(super) fn print_sizes<R: Print + AllocGlobal>(rt: &R) -> Result<(), Failure> {
+pub(super) fn add_sizes(lines: &mut Lines) {
     let first = (1000, 100, 1000, 2000);
     let second = (3000, 80, 1500, 2500);
-    print_sum(rt, first, second)?;
-    print_sum(rt, second, first)?;
-    print_sum(rt, (u64::MAX, 0, 0, 0), (1, 0, 0, 0))
+    add_sum(lines, first, second);
+    add_sum(lines, second, first);
+    add_sum(lines, (u64::MAX, 0, 0, 0), (1, 0, 0, 0));
 }

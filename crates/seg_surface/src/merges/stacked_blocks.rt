@@ -2,7 +2,7 @@
 ghost use Rattle.std.specs.Prelude.{◌≡◌, ◌<◌, ◌^◌};
 
 use super::indices::{copies, index_of};
-use crate::failure::Failure;
+use crate::lines::Lines;
 use crate::samples::{memory, schema, segment, settings};
 use seg_directory::MemoryDirectory;
 use seg_merger::IndexMerger;
@@ -62,12 +62,14 @@ fn merged_blocks(alloc: Global, documents: u32) -> TResult<usize>
     Ok(reader.store_reader().block_count())
 }
 
-pub(super) fn print_stacking<R: Print + AllocGlobal>(rt: &R) -> Result<(), Failure> {
-    for documents in [5u32, 6] {
-        let blocks = merged_blocks(rt.alloc(), documents);
-        println!(rt;
-            "IndexMerger::write of a segment of {documents} documents, a block each, block_count: {blocks:?}"
-        )?;
-    }
-    Ok(())
+pub(super) fn add_stacked_blocks(lines: &mut Lines) {
+    let alloc = lines.alloc();
+    lines.add_answer(
+        "IndexMerger::write of a segment of 5 documents, a block each, block_count",
+        &merged_blocks(alloc, 5),
+    );
+    lines.add_answer(
+        "IndexMerger::write of a segment of 6 documents, a block each, block_count",
+        &merged_blocks(alloc, 6),
+    );
 }

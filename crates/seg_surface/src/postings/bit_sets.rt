@@ -1,7 +1,6 @@
 //! A set of numbers that starts out with none.
 
-use crate::bytes::print_bytes;
-use crate::failure::Failure;
+use crate::lines::Lines;
 use seg_bits::BitSet;
 use seg_common::{CommonError, MemorySink};
 use std::alloc::{AllocError, Global};
@@ -13,16 +12,22 @@ fn bytes_of(alloc: Global, set: &BitSet) -> Result<MemorySink, CommonError> {
     Ok(sink)
 }
 
-pub(crate) fn print_bit_sets<R: Print + AllocGlobal>(rt: &R) -> Result<(), Failure> {
-    let mut set = BitSet::with_max_value(rt.alloc(), 70)?;
-    println!(rt;
-        "how many are in BitSet::with_max_value of 70: {}",
-        set.len()
-    )?;
+fn add_set(lines: &mut Lines, set: &mut BitSet) {
+    let count = set.len();
+    lines.add_answer("how many are in BitSet::with_max_value of 70", &count);
     set.insert(65);
-    print_bytes(
-        rt,
-        "BitSet::with_max_value of 70 after insert of 65, serialized",
-        bytes_of(rt.alloc(), &set)?.bytes(),
-    )
+    match bytes_of(lines.alloc(), set) {
+        Ok(sink) => lines.add_bytes(
+            "BitSet::with_max_value of 70 after insert of 65, serialized",
+            sink.bytes(),
+        ),
+        Err(_) => lines.miss(),
+    }
+}
+
+pub(crate) fn add_bit_sets(lines: &mut Lines) {
+    match BitSet::with_max_value(lines.alloc(), 70) {
+        Ok(mut set) => add_set(lines, &mut set),
+        Err(_) => lines.miss(),
+    }
 }

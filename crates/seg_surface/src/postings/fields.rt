@@ -1,10 +1,12 @@
 //! A small field, by bytes that were worked out by hand.
+ghost use Rattle.std.specs.Prelude.{◌≡◌, true, IfOk};
+ghost use Rattle.std.specs.List.{list_all};
+ghost use Rattle.seg_postings.specs.OpenedFields.{dictionary_terms};
+ghost use Rattle.seg_postings.specs.TermForms.{is_formed};
 
-use crate::failure::Failure;
-use crate::samples::entry;
-use seg_common::OwnedBytes;
+use crate::samples::{entry, file};
 use seg_postings::{FieldTerms, InvertedIndexReader};
-use seg_values::{FieldKind, IndexOption};
+use seg_values::{FieldKind, IndexOption, PostingsError};
 use std::alloc::Global;
 
 /// The three parts of a field.
@@ -15,7 +17,7 @@ pub(crate) struct Parts<'a> {
     pub positions: &'a [u8],
 }
 
-/// How many documents each field below is in.
+/// How many documents a segment of each field has.
 pub(crate) const MAX_DOC: u32 = 3;
 
 /// The terms `a` and `b`, with five and three bytes of postings, and three and one of positions.
@@ -46,11 +48,18 @@ pub(crate) const WITH_POSITIONS: Parts<'static> = Parts {
     ],
 };
 
-/// Opens the parts of a text field of three documents.
-pub(crate) fn open(alloc: Global, parts: Parts<'_>) -> Result<InvertedIndexReader, Failure> {
-    let entry = entry(alloc, "body", FieldKind::Text, IndexOption::Positions)?;
-    let bytes = OwnedBytes::new(alloc, parts.terms)?;
+/// Opens the parts of a field of three documents.
+pub(crate) fn open(
+    alloc: Global,
+    kind: FieldKind,
+    parts: Parts<'_>,
+) -> Result<InvertedIndexReader, PostingsError>
+    ensures { IfOk result (λ reader. list_all (is_formed kind) (dictionary_terms reader) ≡ true) }
+{
+    let entry = entry(alloc, "body", kind, IndexOption::Positions)?;
+    let bytes = file(alloc, parts.terms)?;
     let terms = FieldTerms::open(alloc, bytes, &entry, MAX_DOC)?;
-    let field = terms.with_postings(OwnedBytes::new(alloc, parts.postings)?)?;
-    Ok(field.with_positions(OwnedBytes::new(alloc, parts.positions)?)?)
+    let field = terms.with_postings(file(alloc, parts.postings)?)?;
+    let reader = field.with_positions(file(alloc, parts.positions)?)?;
+    Ok(reader)
 }

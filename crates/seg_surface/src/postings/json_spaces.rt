@@ -1,17 +1,14 @@
 //! The space of the terms of a JSON field, by bytes that were worked out by hand.
-ghost use Rattle.std.specs.Prelude.{◌≡◌, true, IfOk};
+ghost use Rattle.std.specs.Prelude.{◌≡◌, true};
 ghost use Rattle.std.specs.List.{list_all};
 ghost use Rattle.seg_values.specs.declared.schema.FieldKind.TheVariants as kinds;
 ghost use Rattle.seg_postings.specs.OpenedFields.{dictionary_terms};
 ghost use Rattle.seg_postings.specs.TermForms.{is_formed};
 
-use super::fields::{MAX_DOC, Parts};
-use crate::failure::Failure;
-use crate::samples::entry;
-use seg_common::OwnedBytes;
-use seg_postings::{FieldTerms, InvertedIndexReader};
-use seg_values::{FieldKind, IndexOption};
-use std::alloc::Global;
+use super::fields::{Parts, open};
+use crate::lines::Lines;
+use seg_postings::InvertedIndexReader;
+use seg_values::FieldKind;
 
 /// An i64 and the texts `x` and `y` at the path `a`, and the text `x` at the path `b`.
 const LEAVES: Parts<'static> = Parts {
@@ -50,25 +47,21 @@ const LEAVES: Parts<'static> = Parts {
     ],
 };
 
-/// Opens the parts of a JSON field of three documents.
-fn open(alloc: Global, parts: Parts<'_>) -> Result<InvertedIndexReader, Failure>
-    ensures { IfOk result (λ reader. list_all (is_formed kinds.Json) (dictionary_terms reader) ≡ true) }
+fn add_spaces(lines: &mut Lines, reader: &InvertedIndexReader)
+    requires { list_all (is_formed kinds.Json) (dictionary_terms reader.now) ≡ true }
 {
-    let entry = entry(alloc, "attributes", FieldKind::Json, IndexOption::Positions)?;
-    let bytes = OwnedBytes::new(alloc, parts.terms)?;
-    let terms = FieldTerms::open(alloc, bytes, &entry, MAX_DOC)?;
-    let field = terms.with_postings(OwnedBytes::new(alloc, parts.postings)?)?;
-    let reader = field.with_positions(OwnedBytes::new(alloc, parts.positions)?)?;
-    Ok(reader)
+    match reader.list_encoded_json_fields(lines.alloc()) {
+        Ok(spaces) => lines.add_each("one of list_encoded_json_fields", &spaces),
+        Err(_) => lines.miss(),
+    }
 }
 
-pub(crate) fn print_json_spaces<R: Print + AllocGlobal>(rt: &R) -> Result<(), Failure> {
-    let reader = open(rt.alloc(), LEAVES)?;
-    println!(rt;
-        "## JSON field: an i64 and the texts x and y at the path a, the text x at the path b"
-    )?;
-    for space in reader.list_encoded_json_fields(rt.alloc())? {
-        println!(rt; "one of list_encoded_json_fields: {space:?}")?;
+pub(crate) fn add_json_spaces(lines: &mut Lines) {
+    lines.add(
+        "## JSON field: an i64 and the texts x and y at the path a, the text x at the path b",
+    );
+    match open(lines.alloc(), FieldKind::Json, LEAVES) {
+        Ok(reader) => add_spaces(lines, &reader),
+        Err(_) => lines.miss(),
     }
-    Ok(())
 }

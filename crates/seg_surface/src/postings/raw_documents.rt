@@ -1,12 +1,10 @@
 //! The bytes of stored documents, by the bytes of a store that were worked out by hand.
 
 use super::alive::set;
-use crate::bytes::print_bytes;
-use crate::failure::Failure;
+use super::stores::open;
+use crate::lines::Lines;
 use seg_bits::ReadOnlyBitSet;
-use seg_common::OwnedBytes;
 use seg_store::StoreReader;
-use std::alloc::Global;
 
 /// The documents of the texts a, b and c in field 0, of which a and b are one block, and c is another.
 const STORE: [u8; 80] = [
@@ -27,27 +25,27 @@ const STORE: [u8; 80] = [
     0, // not compressed
 ];
 
-fn open(alloc: Global) -> Result<StoreReader, Failure> {
-    let bytes = OwnedBytes::new(alloc, STORE.as_slice())?;
-    Ok(StoreReader::open(bytes)?)
-}
-
-fn print_raw<R: Print + AllocGlobal>(
-    rt: &R,
-    what: &str,
-    store: &StoreReader,
-    alive: Option<&ReadOnlyBitSet>,
-) -> Result<(), Failure> {
-    println!(rt; "StoreReader::iter_raw of the documents of a, b and c in field 0, {what}:")?;
+fn add_raw(lines: &mut Lines, store: &StoreReader, alive: Option<&ReadOnlyBitSet>) {
     for document in store.iter_raw(alive) {
-        print_bytes(rt, "  a document", document.as_slice())?;
+        lines.add_bytes("  a document", document.as_slice());
     }
-    Ok(())
 }
 
-pub(crate) fn print_raw_documents<R: Print + AllocGlobal>(rt: &R) -> Result<(), Failure> {
-    let store = open(rt.alloc())?;
-    print_raw(rt, "all", &store, None)?;
-    let alive = set(rt.alloc(), 3, 0b101)?;
-    print_raw(rt, "where a and c are alive", &store, Some(&alive))
+fn add_alive(lines: &mut Lines, store: &StoreReader) {
+    match set(lines.alloc(), 3, 0b101) {
+        Ok(alive) => add_raw(lines, store, Some(&alive)),
+        Err(_) => lines.miss(),
+    }
+}
+
+pub(crate) fn add_raw_documents(lines: &mut Lines) {
+    let Ok(store) = open(lines.alloc(), STORE.as_slice()) else {
+        return lines.miss();
+    };
+    lines.add("StoreReader::iter_raw of the documents of a, b and c in field 0, all:");
+    add_raw(lines, &store, None);
+    lines.add(
+        "StoreReader::iter_raw of the documents of a, b and c in field 0, where a and c are alive:",
+    );
+    add_alive(lines, &store);
 }

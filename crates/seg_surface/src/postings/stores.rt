@@ -4,10 +4,8 @@ ghost use Rattle.seg_store.specs.Store.{document_count};
 ghost use Rattle.seg_store.specs.WriterBlocks.{taken_count};
 ghost use Rattle.seg_doc_bytes.specs.StoredDocumentLaw.{AreShallow};
 
-use crate::bytes::print_bytes;
-use crate::failure::Failure;
-use crate::samples::schema;
-use seg_common::OwnedBytes;
+use crate::lines::Lines;
+use crate::samples::{file, schema};
 use seg_store::{
     CachedStoreReader, StoreError, StoreReader, StoreWriter, stacked_blocks_stay_in_order,
 };
@@ -32,18 +30,17 @@ fn store_of_one(alloc: Global) -> Result<Vec<u8>, StoreError> {
     writer.close()
 }
 
-fn open(alloc: Global, bytes: &[u8]) -> Result<StoreReader, Failure> {
-    let bytes = OwnedBytes::new(alloc, bytes)?;
-    Ok(StoreReader::open(bytes)?)
+pub(super) fn open(alloc: Global, bytes: &[u8]) -> Result<StoreReader, StoreError> {
+    StoreReader::open(file(alloc, bytes)?)
 }
 
 /// A reader of a store of at most one document.
-fn one(alloc: Global, bytes: &[u8]) -> Result<StoreReader, Failure>
+fn one(alloc: Global, bytes: &[u8]) -> Result<StoreReader, StoreError>
     ensures { IfOk result (λ r. document_count r ≤ 1) }
 {
     let reader = open(alloc, bytes)?;
     if reader.num_docs() > 1 {
-        return Err(Failure::Refused("num_docs"));
+        return Err(StoreError::Malformed);
     }
     Ok(reader)
 }
@@ -61,42 +58,65 @@ fn stack(writer: &mut StoreWriter, reader: &StoreReader, times: u32) -> Result<(
     Ok(())
 }
 
-/// The store of one document, six times.
-fn six(alloc: Global, bytes: &[u8]) -> Result<Vec<u8>, Failure> {
-    let reader = one(alloc, bytes)?;
+/// A writer that has the store of at most one document six times.
+fn stacked(alloc: Global, reader: &StoreReader) -> Result<StoreWriter, StoreError>
+    requires { document_count reader.now ≤ 1 }
+{
     let mut writer = StoreWriter::new(alloc, Compressor::None, 16384, false)?;
-    stack(&mut writer, &reader, 6)?;
-    Ok(writer.close()?)
+    stack(&mut writer, reader, 6)?;
+    Ok(writer)
 }
 
-/// Prints the first document.
-fn print_document<R: Print>(rt: &R, reader: &mut CachedStoreReader) -> Result<(), Failure> {
+/// The store of one document, six times.
+fn six(alloc: Global, bytes: &[u8]) -> Result<Vec<u8>, StoreError> {
+    let reader = one(alloc, bytes)?;
+    stacked(alloc, &reader)?.close()
+}
+
+/// How many blocks it has.
+fn blocks_of_six(alloc: Global, bytes: &[u8]) -> Result<usize, StoreError> {
+    let file = six(alloc, bytes)?;
+    Ok(open(alloc, &file)?.block_count())
+}
+
+/// Adds the first document.
+fn add_document(lines: &mut Lines, reader: &mut CachedStoreReader) {
     if reader.num_docs() == 0 {
-        return Err(Failure::Refused("num_docs"));
+        return lines.miss();
     }
-    let document = reader.get(0)?;
-    println!(rt; "document 0 of the store, read through a cache of one block: {document:?}")?;
-    Ok(())
+    lines.add_result(
+        "document 0 of the store, read through a cache of one block",
+        reader.get(0),
+    );
 }
 
-/// Prints a document twice, and then how the cache was used.
-fn print_cached<R: Print + AllocGlobal>(rt: &R, bytes: &[u8]) -> Result<(), Failure> {
-    let bytes = OwnedBytes::new(rt.alloc(), bytes)?;
-    let mut reader = CachedStoreReader::open(rt.alloc(), bytes, 1)?;
-    print_document(rt, &mut reader)?;
-    print_document(rt, &mut reader)?;
-    println!(rt; "cache_stats after this: {:?}", reader.cache_stats())?;
-    Ok(())
+/// Adds a document twice, and then how the cache was used.
+fn add_cached(lines: &mut Lines, reader: &mut CachedStoreReader) {
+    add_document(lines, reader);
+    add_document(lines, reader);
+    lines.add_answer("cache_stats after this", &reader.cache_stats());
 }
 
-pub(crate) fn print_stores<R: Print + AllocGlobal>(rt: &R) -> Result<(), Failure> {
-    let file = store_of_one(rt.alloc())?;
-    print_bytes(rt, "store of the document of the text a in field 0", &file)?;
-    print_cached(rt, &file)?;
-    let six = six(rt.alloc(), &file)?;
-    println!(rt;
-        "blocks of a store that this one is stacked in six times: {}",
-        open(rt.alloc(), &six)?.block_count()
-    )?;
-    Ok(())
+fn cached(alloc: Global, bytes: &[u8]) -> Result<CachedStoreReader, StoreError> {
+    CachedStoreReader::open(alloc, file(alloc, bytes)?, 1)
+}
+
+fn add_store(lines: &mut Lines, bytes: &[u8]) {
+    let alloc = lines.alloc();
+    lines.add_bytes("store of the document of the text a in field 0", bytes);
+    match cached(alloc, bytes) {
+        Ok(mut reader) => add_cached(lines, &mut reader),
+        Err(_) => lines.miss(),
+    }
+    lines.add_result(
+        "blocks of a store that this one is stacked in six times",
+        blocks_of_six(alloc, bytes),
+    );
+}
+
+pub(crate) fn add_stores(lines: &mut Lines) {
+    match store_of_one(lines.alloc()) {
+        Ok(file) => add_store(lines, &file),
+        Err(_) => lines.miss(),
+    }
 }

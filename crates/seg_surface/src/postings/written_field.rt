@@ -1,7 +1,6 @@
 //! A small field is written.
 
-use crate::bytes::print_bytes;
-use crate::failure::Failure;
+use crate::lines::Lines;
 use seg_postings::{InvertedIndexSerializer, PostingsFiles, RecordKind};
 use seg_values::{Field, PostingsError};
 use std::alloc::Global;
@@ -21,12 +20,18 @@ fn written(alloc: Global) -> Result<PostingsFiles, PostingsError> {
     serializer.close()
 }
 
-pub(crate) fn print_writing<R: Print + AllocGlobal>(rt: &R) -> Result<(), Failure> {
-    println!(rt;
-        "## field 0: a at 0 and 3 of document 0 and at 1 of document 2, b at 2 of document 1"
-    )?;
-    let files = written(rt.alloc())?;
-    print_bytes(rt, "file of terms", &files.terms)?;
-    print_bytes(rt, "file of postings", &files.postings)?;
-    print_bytes(rt, "file of positions", &files.positions)
+fn add_files(lines: &mut Lines, files: &PostingsFiles) {
+    lines.add_bytes("file of terms", &files.terms);
+    lines.add_bytes("file of postings", &files.postings);
+    lines.add_bytes("file of positions", &files.positions);
+}
+
+pub(crate) fn add_written_field(lines: &mut Lines) {
+    lines.add(
+        "## field 0: a at 0 and 3 of document 0 and at 1 of document 2, b at 2 of document 1",
+    );
+    match written(lines.alloc()) {
+        Ok(files) => add_files(lines, &files),
+        Err(_) => lines.miss(),
+    }
 }

@@ -1,7 +1,7 @@
 //! What the columns of a small segment have, by the names of their fields.
 ghost use Rattle.std.specs.Prelude.{◌≡◌, IfOk};
 
-use crate::failure::Failure;
+use crate::lines::Lines;
 use crate::samples::{Words, entry, memory, segment, settings};
 use seg_build::SegmentWriter;
 use seg_directory::MemoryDirectory;
@@ -72,33 +72,37 @@ fn first_price(alloc: Global, reader: &SegmentReader) -> TResult<Option<u64>> {
     Ok(prices.first(0))
 }
 
-fn print_shelves<R: Print + AllocGlobal>(rt: &R, shelves: &FacetReader) -> Result<(), Failure> {
+fn add_shelves(lines: &mut Lines, shelves: &FacetReader) {
     let count = shelves.num_facets();
-    println!(rt; "  facet_reader of \"shelf\", num_facets: {count}")?;
+    lines.add_answer("  facet_reader of \"shelf\", num_facets", &count);
     for ord in 0..count {
-        let mut shelf = Facet::root(rt.alloc());
+        let mut shelf = Facet::root(lines.alloc());
         let answer = shelves.facet_from_ord(ord as u64, &mut shelf);
-        let path = shelf.encoded_str();
-        println!(rt; "  facet_from_ord {ord}: {answer:?} {path:?}")?;
+        lines.add_answer(
+            "  facet_from_ord, ordinal, answer and facet",
+            &(ord, &answer, shelf.encoded_str()),
+        );
     }
-    Ok(())
 }
 
-fn print_parts<R: Print + AllocGlobal>(rt: &R, reader: &SegmentReader) -> Result<(), Failure> {
-    let price = first_price(rt.alloc(), reader);
-    println!(rt; "  fast_fields, u64 of \"price\", first of document 0: {price:?}")?;
-    let Ok(shelves) = reader.facet_reader(rt.alloc(), "shelf") else {
-        return Err(Failure::Refused("facet_reader"));
-    };
-    print_shelves(rt, &shelves)
+fn add_parts(lines: &mut Lines, reader: &SegmentReader) {
+    let alloc = lines.alloc();
+    lines.add_answer(
+        "  fast_fields, u64 of \"price\", first of document 0",
+        &first_price(alloc, reader),
+    );
+    match reader.facet_reader(alloc, "shelf") {
+        Ok(shelves) => add_shelves(lines, &shelves),
+        Err(_) => lines.miss(),
+    }
 }
 
-pub(super) fn print_columns<R: Print + AllocGlobal>(rt: &R) -> Result<(), Failure> {
-    println!(rt;
-        "SegmentReader::open of a document with the facet \"/top/left\" as \"shelf\" and the \"price\" 42:"
-    )?;
-    let Ok(reader) = opened(rt.alloc()) else {
-        return Err(Failure::Refused("SegmentReader::open"));
-    };
-    print_parts(rt, &reader)
+pub(super) fn add_columns(lines: &mut Lines) {
+    lines.add(
+        "SegmentReader::open of a document with the facet \"/top/left\" as \"shelf\" and the \"price\" 42:",
+    );
+    match opened(lines.alloc()) {
+        Ok(reader) => add_parts(lines, &reader),
+        Err(_) => lines.miss(),
+    }
 }

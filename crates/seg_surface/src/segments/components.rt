@@ -3,8 +3,7 @@ ghost use Rattle.std.specs.Prelude.{◌≡◌, ◌<◌, ◌-◌, ◌^◌, [], So
 ghost use Rattle.seg_postings.specs.FieldFiles.{no_fields};
 ghost use Rattle.seg_store.specs.WriterBlocks.{taken_count};
 
-use crate::bytes::print_bytes;
-use crate::failure::Failure;
+use crate::lines::Lines;
 use crate::samples::{schema, segment, settings};
 use seg_postings::{InvertedIndexSerializer, RecordKind};
 use seg_segment::{SegmentFiles, SegmentSerializer};
@@ -90,44 +89,70 @@ fn with_length(alloc: Global) -> Result<SegmentSerializer, AllocError> {
     }
 }
 
-fn print_terms<R: Print + AllocGlobal>(rt: &R) -> Result<(), Failure> {
-    let files = with_term(rt.alloc())?;
-    let what = "  get_postings_serializer, the term a of document 0 in field 0, terms";
-    print_bytes(rt, what, files.terms.as_slice())?;
-    print_bytes(rt, "  and postings", files.postings.as_slice())
+fn add_terms(lines: &mut Lines, files: &SegmentFiles) {
+    lines.add_bytes(
+        "  get_postings_serializer, the term a of document 0 in field 0, terms",
+        files.terms.as_slice(),
+    );
+    lines.add_bytes("  and postings", files.postings.as_slice());
 }
 
-fn print_store<R: Print + AllocGlobal>(rt: &R) -> Result<(), Failure> {
-    let serializer = with_document(rt.alloc())?;
+fn add_store(lines: &mut Lines, serializer: SegmentSerializer) {
     let (id, bytes) = (serializer.segment().id(), serializer.mem_usage());
-    println!(rt; "  segment().id(): {id:?}")?;
-    println!(rt; "  mem_usage after a document without a value: {bytes}")?;
-    let files = serializer.into_files()?;
-    let what = "  get_store_writer, a document without a value, store";
-    print_bytes(rt, what, files.store.as_slice())
+    lines.add_answer("  segment().id()", &id);
+    lines.add_answer("  mem_usage after a document without a value", &bytes);
+    match serializer.into_files() {
+        Ok(files) => lines.add_bytes(
+            "  get_store_writer, a document without a value, store",
+            files.store.as_slice(),
+        ),
+        Err(_) => lines.miss(),
+    }
 }
 
-fn print_columns<R: Print + AllocGlobal>(rt: &R) -> Result<(), Failure> {
-    let files = with_columns(rt.alloc())?;
-    let what = "  get_fast_field_write, the bytes 61 and 62, fast fields";
-    print_bytes(rt, what, files.fast_fields.as_slice())
+fn add_columns(lines: &mut Lines, files: &SegmentFiles) {
+    lines.add_bytes(
+        "  get_fast_field_write, the bytes 61 and 62, fast fields",
+        files.fast_fields.as_slice(),
+    );
 }
 
-fn print_lengths<R: Print + AllocGlobal>(rt: &R) -> Result<(), Failure> {
-    let mut serializer = with_length(rt.alloc())?;
+fn add_lengths(lines: &mut Lines, mut serializer: SegmentSerializer) {
     let again = serializer.extract_fieldnorms_serializer().is_some();
-    println!(rt; "  extract_fieldnorms_serializer a second time is there: {again}")?;
-    let files = serializer.into_files()?;
-    let what = "  put_fieldnorms of the length id 5 in field 0, field norms";
-    print_bytes(rt, what, files.field_norms.as_slice())
+    lines.add_answer(
+        "  extract_fieldnorms_serializer a second time is there",
+        &again,
+    );
+    match serializer.into_files() {
+        Ok(files) => lines.add_bytes(
+            "  put_fieldnorms of the length id 5 in field 0, field norms",
+            files.field_norms.as_slice(),
+        ),
+        Err(_) => lines.miss(),
+    }
 }
 
-pub(super) fn print_components<R: Print + AllocGlobal>(rt: &R) -> Result<(), Failure> {
-    println!(rt;
-        "SegmentSerializer, what was written to a component, and its file of `into_files`:"
-    )?;
-    print_terms(rt)?;
-    print_store(rt)?;
-    print_columns(rt)?;
-    print_lengths(rt)
+fn add_written(lines: &mut Lines) {
+    let alloc = lines.alloc();
+    match with_term(alloc) {
+        Ok(files) => add_terms(lines, &files),
+        Err(_) => lines.miss(),
+    }
+    match with_document(alloc) {
+        Ok(serializer) => add_store(lines, serializer),
+        Err(_) => lines.miss(),
+    }
+    match with_columns(alloc) {
+        Ok(files) => add_columns(lines, &files),
+        Err(_) => lines.miss(),
+    }
+}
+
+pub(super) fn add_components(lines: &mut Lines) {
+    lines.add("SegmentSerializer, what was written to a component, and its file of `into_files`:");
+    add_written(lines);
+    match with_length(lines.alloc()) {
+        Ok(serializer) => add_lengths(lines, serializer),
+        Err(_) => lines.miss(),
+    }
 }

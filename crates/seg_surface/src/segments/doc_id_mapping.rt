@@ -2,7 +2,7 @@
 ghost use Rattle.std.specs.Prelude.{◌≡◌, ◌∷◌, [], IfOk};
 
 use super::titles::opened;
-use crate::failure::Failure;
+use crate::lines::Lines;
 use seg_merger::{IndexMerger, SegmentDocIdMapping};
 use seg_open::SegmentReader;
 use seg_values::TResult;
@@ -31,24 +31,19 @@ fn mapping_of_both(alloc: Global, reader: SegmentReader) -> TResult<SegmentDocId
     merger.get_doc_id_from_concatenated_data(alloc)
 }
 
-pub(super) fn mapping(alloc: Global) -> TResult<SegmentDocIdMapping> {
+fn mapping(alloc: Global) -> TResult<SegmentDocIdMapping> {
     mapping_of_both(alloc, opened(alloc)?)
 }
 
-fn print_mapping<R: Print + AllocGlobal>(
-    rt: &R,
-    mapping: &SegmentDocIdMapping,
-) -> Result<(), Failure> {
-    for address in mapping.addresses() {
-        println!(rt; "  {address:?}")?;
-    }
-    Ok(())
+fn add_mapping(lines: &mut Lines, mapping: &SegmentDocIdMapping) {
+    lines.add_each("  one of addresses", mapping.addresses());
+    lines.add_answer("  mapping_type", &mapping.mapping_type());
 }
 
-pub(super) fn print_joining<R: Print + AllocGlobal>(rt: &R) -> Result<(), Failure> {
-    println!(rt; "get_doc_id_from_concatenated_data of that segment and its try_clone:")?;
-    let Ok(mapping) = mapping(rt.alloc()) else {
-        return Err(Failure::Refused("get_doc_id_from_concatenated_data"));
-    };
-    print_mapping(rt, &mapping)
+pub(super) fn add_doc_id_mapping(lines: &mut Lines) {
+    lines.add("get_doc_id_from_concatenated_data of that segment and its try_clone:");
+    match mapping(lines.alloc()) {
+        Ok(mapping) => add_mapping(lines, &mapping),
+        Err(_) => lines.miss(),
+    }
 }

@@ -1,7 +1,7 @@
 //! What the reader of the segment of titles answers.
 
 use super::titles::opened;
-use crate::failure::Failure;
+use crate::lines::Lines;
 use seg_open::SegmentReader;
 use seg_values::{Field, TResult};
 use std::alloc::Global;
@@ -30,30 +30,40 @@ fn stored(alloc: Global, reader: &SegmentReader) -> TResult<u32> {
     }
 }
 
-fn print_field<R: Print>(rt: &R, reader: &mut SegmentReader, field: u32) -> Result<(), Failure> {
-    let terms = terms_in(reader, field);
-    println!(rt; "  inverted_index of field {field}, terms().num_terms: {terms:?}")?;
-    let lengths = lengths(reader, field);
-    println!(rt; "  get_fieldnorms_reader of field {field}, num_docs: {lengths:?}")?;
-    Ok(())
+fn add_fields(lines: &mut Lines, reader: &mut SegmentReader) {
+    lines.add_answer(
+        "  inverted_index of field 0, terms().num_terms",
+        &terms_in(reader, 0),
+    );
+    lines.add_answer(
+        "  inverted_index of field 1, terms().num_terms",
+        &terms_in(reader, 1),
+    );
+    lines.add_answer(
+        "  get_fieldnorms_reader of field 0, num_docs",
+        &lengths(reader, 0),
+    );
+    lines.add_answer(
+        "  get_fieldnorms_reader of field 1, num_docs",
+        &lengths(reader, 1),
+    );
 }
 
-fn print_documents<R: Print + AllocGlobal>(rt: &R, reader: &SegmentReader) -> Result<(), Failure> {
-    println!(rt; "SegmentReader::open of the titles \"a b a\" and \"b\": {reader:?}")?;
-    let stored = stored(rt.alloc(), reader);
-    println!(rt; "  get_store_reader, num_docs: {stored:?}")?;
-    Ok(())
+fn add_reader(lines: &mut Lines, reader: &mut SegmentReader) {
+    lines.add_answer(
+        "SegmentReader::open of the titles \"a b a\" and \"b\"",
+        &*reader,
+    );
+    lines.add_answer(
+        "  get_store_reader, num_docs",
+        &stored(lines.alloc(), reader),
+    );
+    add_fields(lines, reader);
 }
 
-fn print_reader<R: Print + AllocGlobal>(rt: &R, reader: &mut SegmentReader) -> Result<(), Failure> {
-    print_documents(rt, reader)?;
-    print_field(rt, reader, 0)?;
-    print_field(rt, reader, 1)
-}
-
-pub(super) fn print_reading<R: Print + AllocGlobal>(rt: &R) -> Result<(), Failure> {
-    let Ok(mut reader) = opened(rt.alloc()) else {
-        return Err(Failure::Refused("SegmentReader::open"));
-    };
-    print_reader(rt, &mut reader)
+pub(super) fn add_reader_answers(lines: &mut Lines) {
+    match opened(lines.alloc()) {
+        Ok(mut reader) => add_reader(lines, &mut reader),
+        Err(_) => lines.miss(),
+    }
 }

@@ -21,8 +21,8 @@ returns-in-Err g c =
     (subst (λ (x : Input). output_id x.ids < 2 ^ 128) is (output_fits _ c.ids_fit.ensures)) IndexMeta c.in-Err.e a b
     (subst (λ (x : Input). WritesWork {T = IndexMeta} knows F x (Err c.in-Err.e) a b) c.as_ref-parts.ensures c.in-Err.ensures.does)
 
-pub plan_of-requires : goal.plan_of-requires
-plan_of-requires g c =
+pub plan_of-plan-requires : goal.plan_of-plan-requires
+plan_of-plan-requires g c =
     let knows = g.Z.Analyzers.knows c.args.analyzers.now in
     let F = g.Z.Analyzers.tokens_of c.args.analyzers.now in
     let a = both (g.W.Directory.state c.args.work.now) (g.O.Directory.state c.args.output.now) in

@@ -36,7 +36,7 @@ returns-in-Err-checked_store g c =
     stops_at_store c.args.id schema documents c.in_ok-terms.terms c.in-Ok.dictionaries.items c.in-Ok.ensures.ok _ _ _ _
     (sound_read c.args.id Terms c.in_ok-terms.terms c.in_ok-terms.ensures)
     (unopened c.args.id Store (StoreUnopened schema documents) _ _ c.in_ok-stored.stored c.in_ok-stored.ensures
-    c.in-Err-checked_store.e c.of_segment-2.result c.of_segment-2.ensures c.in-Err-checked_store.ensures)
+    c.in-Err-checked_store.e c.of_segment-in-Err-checked_store.result c.of_segment-in-Err-checked_store.ensures c.in-Err-checked_store.ensures)
 
 pub returns-in_err-postings : goal.returns-in_err-postings
 returns-in_err-postings g c =
@@ -59,7 +59,7 @@ returns-in-Err-open_postings g c =
     c.in_ok-stored.stored c.in-Ok-checked_store.store c.in-Ok-checked_store.ensures _ _ _ _ (then_does terms store)
     (unopened c.args.id Postings (λ bytes. PostingsUnopened schema bytes c.in-Ok.dictionaries.items) _ _
     c.in_ok-postings.postings c.in_ok-postings.ensures
-    c.in-Err-open_postings.e c.of_segment-3.result c.of_segment-3.ensures c.in-Err-open_postings.ensures.err)
+    c.in-Err-open_postings.e c.of_segment-in-Err-open_postings.result c.of_segment-in-Err-open_postings.ensures c.in-Err-open_postings.ensures.err)
 
 pub returns-in-Ok-open_postings : goal.returns-in-Ok-open_postings
 returns-in-Ok-open_postings g c =

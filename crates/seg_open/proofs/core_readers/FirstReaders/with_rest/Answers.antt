@@ -1,4 +1,4 @@
-use Rattle.std.proofs.Common.{rules, ◌≡◌, ⊥}
+use Rattle.std.proofs.Common.{rules, ◌≡◌}
 use Rattle.seg_common.specs.declared.name.SegmentComponent.TheVariants.{FastFields, FieldNorms, Positions}
 use Rattle.seg_directory.proofs.Exports.{then_does}
 use Rattle.seg_column_format.specs.SchemaColumns.{HoldColumns}
@@ -43,7 +43,7 @@ returns-in-Err-open_fast_fields g c start three =
     _ _ _ positions
     (unopened c.args.id FastFields (λ bytes. HoldColumns schema documents bytes → ⊥) _ _
     c.in_ok-columns.columns c.in_ok-columns.ensures
-    c.in-Err-open_fast_fields.e c.of_segment-2.result c.of_segment-2.ensures c.in-Err-open_fast_fields.ensures)
+    c.in-Err-open_fast_fields.e c.of_segment-in-Err-open_fast_fields.result c.of_segment-in-Err-open_fast_fields.ensures c.in-Err-open_fast_fields.ensures)
 
 pub returns-in_err-norms : goal.returns-in_err-norms
 returns-in_err-norms g c start three =
@@ -65,7 +65,7 @@ returns-in-Err-open_norms g c start three =
     stops_at_norms c.args.id schema documents c.args.self start _ three c.in_ok-positions.positions c.in-Ok.fields.items c.in-Ok.ensures.ok
     c.in_ok-columns.columns c.in-Ok-open_fast_fields.ensures.0 _ _ (then_does positions columns) _
     (unopened c.args.id FieldNorms (NormsUnopened schema documents) _ _ c.in_ok-norms.norms c.in_ok-norms.ensures
-    c.in-Err-open_norms.e c.of_segment-3.result c.of_segment-3.ensures c.in-Err-open_norms.ensures)
+    c.in-Err-open_norms.e c.of_segment-in-Err-open_norms.result c.of_segment-in-Err-open_norms.ensures c.in-Err-open_norms.ensures)
 
 pub returns-in-Ok-open_norms : goal.returns-in-Ok-open_norms
 returns-in-Ok-open_norms g c start three =
