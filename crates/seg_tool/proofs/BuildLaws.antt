@@ -1,7 +1,6 @@
 -- What the writing and printing of both indexes comes to.
-use Rattle.std.proofs.Common.{◌≡◌, ◌≢◌, ◌≤◌, ℕ, Bool, List, [], ◌∷◌, ◌++◌, Option, None, Some, Result, Ok, Err, IsTrue, refl, sym, ap, subst, inl, inr, codes, arith}
+use Rattle.std.proofs.Common.{◌≡◌, ◌≢◌, ◌≤◌, ◌∙◌, ℕ, List, Some, Ok, Err, IsTrue, refl, sym, ap, subst, inl, inr, codes, arith}
 use Rattle.std.specs.Prelude.{◌⊎◌, IfSome}
-use Rattle.std.specs.FinMap.{len}
 use Rattle.std.proofs.lemmas.Option.{MatchOption-from_none}
 use Rattle.seg_common.specs.FaultCounts.{Rose}
 use Rattle.seg_values.specs.declared.error.TantivyError.{TantivyError}
@@ -11,28 +10,34 @@ use Rattle.seg_directory.specs.DirectoryStates.{DirectoryState}
 use Rattle.seg_meta.specs.declared.index_meta.IndexMeta.{IndexMeta}
 use Rattle.seg_model.specs.Fields.{Analyzer}
 use Rattle.seg_model.specs.Input.{Input}
-use Rattle.seg_model.specs.Refusals.{IfRefusal, build_refusal}
+use Rattle.seg_model.specs.Refusals.{IfRefusal, batches_error, build_refusal}
 use Rattle.seg_model.specs.ValidInputs.{Known, input_refusal}
 use Rattle.seg_segment.specs.Laws.{HoldsOneContents}
 use Rattle.seg_segment.specs.ReadErrors.{IsNoDamage, IsReadError}
-use Rattle.seg_index_build.specs.BuildOutcomes.{IsWhyUntold, AreEmpty}
+use Rattle.seg_index_build.specs.BuildOutcomes.{AreEmpty, BuildComesTo, IsWhyUntold}
 use Rattle.seg_index_build.specs.IndexFiles.{IsMergedIndexOf, IsOutputIndexOf, IsWorkIndexOf}
 use Rattle.seg_index_build.specs.TwoDirectories.{Directories, goes_on, stops}
-use Rattle.seg_index_build.proofs.Exports.{IsBuildError, RoseIn, build_error, read_unrefused}
-use Rattle.seg_tool.specs.Jobs.{Built, BuildsText, NotBuilt}
+use Rattle.seg_index_build.proofs.Exports.{IsBuildError, RoseIn, read_unrefused}
+use Rattle.seg_tool.specs.IndexTexts.{build_text}
+use Rattle.seg_tool.specs.InputIndexes.{BuildsText}
 use Rattle.seg_tool.specs.Printing.{opening}
 use Rattle.seg_tool.specs.ReadingBack.{PrintsIndex}
-use Rattle.seg_tool.specs.Run.{build_text}
 use Rattle.seg_tool.specs.declared.words.Detail.{Detail}
 use Rattle.seg_tool.proofs.IndexLaws.{prints_rose, prints_so, prints_stay, prints_told, prints_undamaged}
 use Rattle.seg_tool.proofs.ReadText.{both_read, output_whole, work_whole}
-use Rattle.seg_tool.proofs.Steady.{BothSteady, Steady, builds_steady, unchanged_steady}
+use Rattle.seg_tool.proofs.StatusLaws.{refusal_any}
+use Rattle.seg_tool.proofs.Steady.{BothSteady, Steady, builds_steady}
 
 tells_as : (a b : DirectoryState) → Steady a b → IsTrue a.tells → IsTrue b.tells
 tells_as a b h told = subst (λ t. IsTrue t) (sym h.tells) told
 
 rose_between : (a b c d : ℕ) → a ≤ b → Rose b c → c ≤ d → Rose a d
 rose_between a b c d first rose last = omega (arith, first, rose, last)
+
+-- the meta of the output
+built_meta : (known : Known) (analyzer : Analyzer) (input : Input) (metas : IndexMeta) (a b : Directories)
+    → BuildComesTo known analyzer input (Ok metas) a b → IsTrue a.output.tells → (documents : ℕ) × IsMergedIndexOf input documents b.output.files
+built_meta known analyzer input metas a b h told = (h.ends.counted.0, (h.ends.in_output told).index_of ∙ ap Some h.ends.counted.1)
 
 -- ---- errors of reading
 
@@ -57,7 +62,7 @@ module _ (known : Known) (analyzer : Analyzer) (input : Input) (detail : Detail)
   pub record Printed (text : List ℕ) (a b : Directories) : Type 0 where
     pub metas : IndexMeta
     pub between : Directories
-    pub built : Built known analyzer input metas a between
+    pub built : BuildComesTo known analyzer input (Ok metas) a between
     pub work : List ℕ
     pub in_work : PrintsIndex (opening detail) (codes "work") detail (Ok work) between.work b.work
     pub in_output : PrintsIndex work (codes "output") detail (Ok text) between.output b.output
@@ -74,7 +79,7 @@ module _ (known : Known) (analyzer : Analyzer) (input : Input) (detail : Detail)
     in_output = subst (λ (s : DirectoryState). PrintsIndex work (codes "output") detail (Ok text) s b.output) k.1 l.0;
   }
 
-  module _ (a m : Directories) (metas : IndexMeta) (built : Built known analyzer input metas a m) where
+  module _ (a m : Directories) (metas : IndexMeta) (built : BuildComesTo known analyzer input (Ok metas) a m) where
     steady : BothSteady a m
     steady = builds_steady known analyzer input (Ok metas) a m built.calls
 
@@ -90,7 +95,7 @@ module _ (known : Known) (analyzer : Analyzer) (input : Input) (detail : Detail)
         both_read law detail analyzer input p.between.work.files p.between.output.files p.work text
         (prints_told (opening detail) (codes "work") detail p.between.work b.work p.work (told_work a p.between p.metas p.built told) p.in_work)
         (prints_told p.work (codes "output") detail p.between.output b.output text (told_output a p.between p.metas p.built told_out) p.in_output)
-        (p.built.work_index told) (p.built.output_index told told_out)
+        ((p.built.ends.in_work told).index) ((p.built.ends.in_work told).output_index told_out)
 
   module _ (text : List ℕ) (a b : Directories) (p : Printed text a b) where
     pub work_stays : b.work.files ≡ p.between.work.files
@@ -100,27 +105,27 @@ module _ (known : Known) (analyzer : Analyzer) (input : Input) (detail : Detail)
     output_stays = (prints_stay p.work (codes "output") detail p.between.output b.output (Ok text) p.in_output).files
 
     pub printed_work : IsTrue a.work.tells → IsWorkIndexOf analyzer input b.work.files
-    printed_work told = subst (λ (files : NamedFiles). IsWorkIndexOf analyzer input files) (sym work_stays) (p.built.work_index told)
+    printed_work told = subst (λ (files : NamedFiles). IsWorkIndexOf analyzer input files) (sym work_stays) ((p.built.ends.in_work told).index)
 
     pub printed_output : IsTrue a.work.tells → IsTrue a.output.tells → IsOutputIndexOf analyzer input b.output.files
-    printed_output told told_out = subst (λ (files : NamedFiles). IsOutputIndexOf analyzer input files) (sym output_stays) (p.built.output_index told told_out)
+    printed_output told told_out = subst (λ (files : NamedFiles). IsOutputIndexOf analyzer input files) (sym output_stays) ((p.built.ends.in_work told).output_index told_out)
 
     pub printed_meta : IsTrue a.output.tells → (documents : ℕ) × IsMergedIndexOf input documents b.output.files
     printed_meta told =
-        subst (λ (files : NamedFiles). (documents : ℕ) × IsMergedIndexOf input documents files) (sym output_stays) (p.built.output_meta told)
+        subst (λ (files : NamedFiles). (documents : ℕ) × IsMergedIndexOf input documents files) (sym output_stays) (built_meta known analyzer input p.metas a p.between p.built told)
 
   -- ---- or it ends with an error
 
   pub data NotPrinted (e : TantivyError) (a b : Directories) : Type 0 where
-    in_building : NotBuilt known analyzer input e a b → NotPrinted e a b
-    in_work : (metas : IndexMeta) (m : Directories) → Built known analyzer input metas a m
+    in_building : BuildComesTo known analyzer input (Err e) a b → NotPrinted e a b
+    in_work : (metas : IndexMeta) (m : Directories) → BuildComesTo known analyzer input (Ok metas) a m
         → PrintsIndex (opening detail) (codes "work") detail (Err e) m.work b.work → b.output ≡ m.output → NotPrinted e a b
-    in_output : (metas : IndexMeta) (m : Directories) (work : List ℕ) → Built known analyzer input metas a m
+    in_output : (metas : IndexMeta) (m : Directories) (work : List ℕ) → BuildComesTo known analyzer input (Ok metas) a m
         → PrintsIndex (opening detail) (codes "work") detail (Ok work) m.work b.work
         → PrintsIndex work (codes "output") detail (Err e) m.output b.output → NotPrinted e a b
 
   pub not_printed : (e : TantivyError) (a b : Directories) → BuildsText known analyzer input detail (Err e) a b → NotPrinted e a b
-  not_printed e a b (stops d is h) = in_building (subst (λ (x : TantivyError). NotBuilt known analyzer input x a b) (sym (cc is)) h)
+  not_printed e a b (stops d is h) = in_building (subst (λ (x : TantivyError). BuildComesTo known analyzer input (Err x) a b) (sym (cc is)) h)
   not_printed e a b (goes_on metas m h (stops d is k)) =
       in_work metas m h (subst (λ (x : TantivyError). PrintsIndex (opening detail) (codes "work") detail (Err x) m.work b.work) (sym (cc is)) k.0) k.1
   not_printed e a b (goes_on metas m h (goes_on work n k l)) =
@@ -130,34 +135,28 @@ module _ (known : Known) (analyzer : Analyzer) (input : Input) (detail : Detail)
 
   module _ (e : TantivyError) (a b : Directories) where
     -- an error of reading back
-    ends_so : NotPrinted e a b → NotBuilt known analyzer input e a b ⊎ IsReadError e
+    ends_so : NotPrinted e a b → BuildComesTo known analyzer input (Err e) a b ⊎ IsReadError e
     ends_so (in_building h) = inl h
     ends_so (in_work metas m built k same) = inr (prints_so (opening detail) (codes "work") detail m.work b.work e k)
     ends_so (in_output metas m work built k l) = inr (prints_so work (codes "output") detail m.output b.output e l)
 
     pub not_first : NotPrinted e a b → IfSome (input_refusal known analyzer input) (λ first. ((e ≡ first) ⊎ (e ≡ OutOfMemory)) × (b ≡ a))
-    not_first (in_building h) = h.first
-    not_first (in_work metas m built k same) = MatchOption-from_none (input_refusal known analyzer input) _ built.admitted
-    not_first (in_output metas m work built k l) = MatchOption-from_none (input_refusal known analyzer input) _ built.admitted
-
-    -- nothing refuses the input once it is built
-    pub not_admitted : NotPrinted e a b → NotBuilt known analyzer input e a b ⊎ (input_refusal known analyzer input ≡ None)
-    not_admitted (in_building h) = inl h
-    not_admitted (in_work metas m built k same) = inr built.admitted
-    not_admitted (in_output metas m work built k l) = inr built.admitted
+    not_first (in_building h) = h.ends.first
+    not_first (in_work metas m built k same) = MatchOption-from_none (input_refusal known analyzer input) _ built.ends.admitted
+    not_first (in_output metas m work built k l) = MatchOption-from_none (input_refusal known analyzer input) _ built.ends.admitted
 
     -- where both directories tell their files, reading back finds no damage
-    reads_so : IsTrue a.work.tells → IsTrue a.output.tells → NotPrinted e a b → NotBuilt known analyzer input e a b ⊎ (IsReadError e × IsNoDamage e)
+    reads_so : IsTrue a.work.tells → IsTrue a.output.tells → NotPrinted e a b → BuildComesTo known analyzer input (Err e) a b ⊎ (IsReadError e × IsNoDamage e)
     reads_so told told_out (in_building h) = inl h
     reads_so told told_out (in_work metas m built k same) =
-        let is = built.work_index told in
+        let is = (built.ends.in_work told).index in
         let tells = told_work a m metas built told in
         inr (
           prints_so (opening detail) (codes "work") detail m.work b.work e k,
           prints_undamaged (opening detail) (codes "work") detail m.work b.work _ tells is.index_of e (work_whole analyzer input m.work.files is) k,
         )
     reads_so told told_out (in_output metas m work built k l) =
-        let is = built.output_index told told_out in
+        let is = (built.ends.in_work told).output_index told_out in
         let tells = told_output a m metas built told_out in
         inr (
           prints_so work (codes "output") detail m.output b.output e l,
@@ -166,32 +165,40 @@ module _ (known : Known) (analyzer : Analyzer) (input : Input) (detail : Detail)
 
     pub not_refused : IsTrue a.work.tells → NotPrinted e a b → IfRefusal (λ x. build_refusal known analyzer input ≡ Some x) e
     not_refused told h = elim (ends_so h) [
-      | inl built ↦ built.refused told
+      | inl built ↦ built.ends.refused told
       | inr so ↦ read_unrefused (λ x. build_refusal known analyzer input ≡ Some x) e so
     ]
 
     -- why it is refused where they need not tell
     pub not_untold : NotPrinted e a b → IfRefusal (IsWhyUntold known analyzer input) e
     not_untold h = elim (ends_so h) [
-      | inl built ↦ built.untold
+      | inl built ↦ built.ends.untold
       | inr so ↦ read_unrefused (IsWhyUntold known analyzer input) e so
+    ]
+
+    -- where a batch is refused, the files of the output are as they were
+    pub not_merged : NotPrinted e a b
+        → IfRefusal (λ _. IfSome (batches_error input.schema analyzer 0 input.cuts input.operations) (λ _. b.output.files ≡ a.output.files)) e
+    not_merged h = elim (ends_so h) [
+      | inl built ↦ refusal_any (IfSome (batches_error input.schema analyzer 0 input.cuts input.operations) (λ _. b.output.files ≡ a.output.files)) e built.ends.batch_refused
+      | inr so ↦ read_unrefused (λ _. IfSome (batches_error input.schema analyzer 0 input.cuts input.operations) (λ _. b.output.files ≡ a.output.files)) e so
     ]
 
     pub not_fresh : AreEmpty a → NotPrinted e a b → e ≢ IndexAlreadyExists
     not_fresh empty h = elim (ends_so h) [
-      | inl built ↦ built.fresh empty
+      | inl built ↦ built.ends.fresh empty
       | inr so ↦ read_exists e so
     ]
 
     pub not_damaged : IsTrue a.work.tells → IsTrue a.output.tells → NotPrinted e a b → IsNoDamage e
     not_damaged told told_out h = elim (reads_so told told_out h) [
-      | inl built ↦ built.whole told
+      | inl built ↦ built.ends.whole told
       | inr so ↦ so.1
     ]
 
     -- with which errors it ends
     pub not_error : NotPrinted e a b → IsBuildError e a b
-    not_error (in_building h) = build_error known analyzer input e a b h.calls
+    not_error (in_building h) = h.ends.errors
     not_error (in_work metas m built k same) =
         error_as e a b (prints_so (opening detail) (codes "work") detail m.work b.work e k)
         (λ is. inl (rose_between a.work.faults m.work.faults b.work.faults b.work.faults (steady a m metas built).work.later

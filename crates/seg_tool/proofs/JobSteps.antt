@@ -1,70 +1,20 @@
--- The jobs of the program, step by step.
-use Rattle.std.proofs.Common.{◌≡◌, ◌≢◌, ◌∙◌, ℕ, List, [], ◌∷◌, map, Bool, true, false, Option, None, Some, Result, Ok, Err, IsTrue, refl, sym, ap, subst, inl, inr}
-use Rattle.std.specs.Prelude.{◌⊎◌, IfErr, IfOk, IfSome, OnOk}
-use Rattle.std.specs.FinMap.{len}
+-- The merge of the segments that an index lists, step by step.
+use Rattle.std.proofs.Common.{◌≡◌, ◌∙◌, ℕ, List, [], ◌∷◌, map, Option, None, Some, Result, Err, refl, sym, ap, subst, inl, inr}
 use Rattle.std.specs.List.{AllByRecursion}
 use Rattle.seg_index_build.specs.MergedIndices.{listed_segments}
 use Rattle.seg_values.specs.declared.error.ArgumentCause.TheVariants.{NoSegments}
 use Rattle.seg_values.specs.declared.error.TantivyError.{TantivyError}
-use Rattle.seg_values.specs.declared.error.TantivyError.TheVariants.{IndexAlreadyExists, InvalidArgument, OutOfMemory}
-use Rattle.seg_directory.specs.DirectoryStates.{DirectoryState, HasOnly, IsEmptyDisk, LeavesOnly}
-use Rattle.seg_meta.specs.IndexOfFiles as index
+use Rattle.seg_values.specs.declared.error.TantivyError.TheVariants.{InvalidArgument, OutOfMemory}
 use Rattle.seg_meta.specs.IndexOfFiles.{ListedSegment}
 use Rattle.seg_meta.specs.Metas.{SegmentParts, segment_of}
-use Rattle.seg_meta.specs.MetaMeaning.{meta_of}
 use Rattle.seg_meta.specs.declared.index_meta.IndexMeta.{IndexMeta}
 use Rattle.seg_meta.specs.declared.index_settings.IndexSettings.{IndexSettings}
-use Rattle.seg_model.specs.Fields.{Analyzer, Schema}
-use Rattle.seg_model.specs.Input.{Filter, Input}
-use Rattle.seg_model.specs.Refusals.{IfRefusal, build_refusal}
-use Rattle.seg_model.specs.ValidInputs.{Known, input_refusal}
-use Rattle.seg_segment.specs.IndexForms.{segment_forms}
-use Rattle.seg_open.specs.Answers.{seen_as}
-use Rattle.seg_open.specs.OpeningSteps.{IsNoDamage}
-use Rattle.seg_check.specs.AdmittedInputs.{IsValidIf}
-use Rattle.seg_index_build.specs.FilesAfterCrash.{MayBeBuilt, MayBeMerged}
-use Rattle.seg_index_build.specs.BuildOutcomes.{EndsBuilding, AreEmpty}
-use Rattle.seg_index_build.specs.DirectoryCalls.{BuildsIndexes}
-use Rattle.seg_index_build.specs.IndexFiles.{IsOutputIndexOf, IsWorkIndexOf, merged_meta, output_id, work_ids}
-use Rattle.seg_index_build.specs.MergedSegments.{AreOfOne, IsRefusal, MergeInput, MergesSegments, merge_input, one_refusal}
-use Rattle.seg_index_build.specs.TwoDirectories.{Directories, both, stops}
-use Rattle.seg_tool.specs.Jobs.{Built, BuildsBoth, Merges, NotBuilt, last_id, merge_of}
+use Rattle.seg_model.specs.Input.{Filter}
+use Rattle.seg_index_build.specs.FilesAfterCrash.{MayBeMerged}
+use Rattle.seg_index_build.specs.MergedSegments.{AreOfOne, IsRefusal, MergeInput, merge_input, one_refusal}
+use Rattle.seg_index_build.specs.TwoDirectories.{Directories, stops}
+use Rattle.seg_tool.specs.Merge.{Merges, last_id, merge_of}
 use Rattle.seg_tool.proofs.OutputOnDisk.{empty_still}
-
--- ---- both indexes are built
-
-module _ (known : Known) (analyzer : Analyzer) (input : Input) (a b : Directories) where
-  -- what is known of it, by its result
-  pub built_so : (r : Result IndexMeta TantivyError) → EndsBuilding known analyzer input (seen_as meta_of r) a b
-      → BuildsIndexes known analyzer input r a b → BuildsBoth known analyzer input r a b
-  built_so (Ok metas) ends calls = record {
-    admitted = ends.admitted;
-    valid = ends.valid;
-    work_was_empty = λ told. (ends.in_work told).was_empty;
-    work_index = λ told. (ends.in_work told).index;
-    output_was_empty = λ told. (ends.in_output told).was_empty;
-    output_meta = λ told. (ends.counted.0, (ends.in_output told).index_of ∙ ap Some ends.counted.1);
-    output_index = λ told told_output. (ends.in_work told).output_index told_output;
-    any_moment = ends.any_moment;
-    at_rest = ends.at_rest;
-    calls = calls;
-  }
-  built_so (Err e) ends calls = record {
-    first = ends.first;
-    refused = ends.refused;
-    untold = ends.untold;
-    fresh = λ empty. ends.fresh (record {
-      work_tells = empty.work_tells;
-      work = empty.work;
-      output_tells = empty.output_tells;
-      output = empty.output;
-    });
-    whole = ends.whole;
-    any_moment = ends.any_moment;
-    calls = calls;
-  }
-
--- ---- merges
 
 module _ (metas : IndexMeta) where
   of_one : (listed : List ListedSegment) → AllByRecursion (λ (s : SegmentParts). s.schema ≡ metas.schema) (map (segment_of metas.schema) listed)
@@ -90,7 +40,7 @@ module _ (metas : IndexMeta) where
       record {
         does = record { refusal = r.refusal; is = r.is; merges = stops OutOfMemory refl (inr refl, refl) };
         errors = tt;
-        index = λ told. tt;
+        is_merge = λ told. tt;
         work_stays = refl;
         undamaged = λ told whole. tt;
         output_whole = λ told. tt;

@@ -10,12 +10,15 @@ use Rattle.seg_model.specs.Fields.{Analyzer}
 use Rattle.seg_model.specs.Input.{Input}
 use Rattle.seg_model.specs.ValidInputs.{Known}
 use Rattle.seg_segment.proofs.Exports.{Unchanged}
+use Rattle.seg_index_build.specs.BuildOutcomes.{BuildComesTo}
 use Rattle.seg_index_build.specs.FilesAfterCrash.{AreMergeOf, MayBeBuilt, MayBeMerged}
 use Rattle.seg_index_build.specs.IndexFiles.{IsOutputIndexOf}
 use Rattle.seg_index_build.specs.TwoDirectories.{Directories, goes_on, stops}
 use Rattle.seg_generate.specs.GeneratedInput.{generated}
-use Rattle.seg_tool.specs.AfterCrash.{HasNoIndex, IsMergeOfListed, MayBeMergeOf}
-use Rattle.seg_tool.specs.Jobs.{Built, BuildsText, GeneratesText, Merges, MergesText, merge_of, not_generated, of_generated}
+use Rattle.seg_tool.specs.Generate.{GeneratesText, not_generated, of_generated}
+use Rattle.seg_tool.specs.InputIndexes.{BuildsText}
+use Rattle.seg_tool.specs.Job.{HasNoIndex}
+use Rattle.seg_tool.specs.Merge.{IsMergeOfListed, MayBeMergeOf, Merges, MergesText, merge_of}
 use Rattle.seg_tool.specs.declared.words.Detail.{Detail}
 use Rattle.seg_tool.specs.declared.words.Detail.TheVariants.{Brief, Summary}
 use Rattle.seg_tool.proofs.BuildLaws.{printed}
@@ -30,12 +33,12 @@ module _ (known : Known) (analyzer : Analyzer) (input : Input) (detail : Detail)
   abbrev Left : DirectoryState → Type 0
   Left s = LeavesOnly (MayBeBuilt analyzer input) a.output.disk s.disk
 
-  built_left : (metas : IndexMeta) (m : Directories) (s : DirectoryState) → Built known analyzer input metas a m → s ≡ m.output → Left s
-  built_left metas m s built same = subst Left (sym same) (built.any_moment told clean)
+  built_left : (metas : IndexMeta) (m : Directories) (s : DirectoryState) → BuildComesTo known analyzer input (Ok metas) a m → s ≡ m.output → Left s
+  built_left metas m s built same = subst Left (sym same) (built.ends.any_moment told clean)
 
   -- what is printed of it changes nothing
   pub builds_leave : (r : Result (List ℕ) TantivyError) (b : Directories) → BuildsText known analyzer input detail r a b → Left b.output
-  builds_leave r b (stops e is h) = h.any_moment told clean
+  builds_leave r b (stops e is h) = h.ends.any_moment told clean
   builds_leave r b (goes_on metas m h (stops e is k)) = built_left metas m b.output h k.1
   builds_leave r b (goes_on metas m h (goes_on work n k l)) =
       let first = built_left metas m n.output h k.1 in
@@ -47,9 +50,9 @@ module _ (known : Known) (analyzer : Analyzer) (input : Input) (detail : Detail)
       → HasOnly (IsOutputIndexOf analyzer input) b.output.disk.now
   builds_rest text b builds =
       let p = printed known analyzer input detail text a b builds in
-      let still = told_on (MayBeBuilt analyzer input) a.output.disk p.between.output.disk clean.told (p.built.any_moment told clean) in
+      let still = told_on (MayBeBuilt analyzer input) a.output.disk p.between.output.disk clean.told (p.built.ends.any_moment told clean) in
       let keeps = prints_keep p.work (codes "output") detail (Ok text) p.between.output b.output still p.in_output in
-      subst (λ (d : FileDisk). HasOnly (IsOutputIndexOf analyzer input) d) (sym (keeps.after still)) (p.built.at_rest told clean)
+      subst (λ (d : FileDisk). HasOnly (IsOutputIndexOf analyzer input) d) (sym (keeps.after still)) (p.built.ends.at_rest told clean)
 
 -- ---- generate
 

@@ -1,13 +1,15 @@
 -- What the merge of an index never ends with, and where it ends well.
-use Rattle.std.proofs.Common.{◌≡◌, ◌≢◌, ◌≤◌, ◌<◌, ◌^◌, ◌∙◌, ℕ, true, List, [], ◌∷◌, map, None, Ok, Err, IsTrue, refl, sym, ap, subst, codes, arith}
-use Rattle.std.specs.Prelude.{is_some}
+use Rattle.std.proofs.Common.{◌≡◌, ◌≢◌, ◌≤◌, ◌<◌, ◌^◌, ◌∙◌, ℕ, true, List, [], ◌∷◌, map, None, Some, Ok, Err, IsTrue, refl, sym, ap, subst, inl, inr, codes, arith}
+use Rattle.std.specs.Prelude.{◌⊎◌, is_some}
 use Rattle.std.specs.FinMap.{len}
 use Rattle.std.specs.List.{AllByRecursion}
 use Rattle.std.proofs.lemmas.Option.{same_Some}
 use Rattle.seg_index_build.specs.MergedIndices.{listed_segments}
 use Rattle.seg_common.specs.FaultCounts.{Rose}
 use Rattle.seg_values.specs.declared.error.TantivyError.{TantivyError}
-use Rattle.seg_values.specs.declared.error.TantivyError.TheVariants.{IndexAlreadyExists, OutOfMemory}
+use Rattle.seg_values.specs.declared.error.ArgumentCause.{ArgumentCause}
+use Rattle.seg_values.specs.declared.error.ArgumentCause.TheVariants.{Documents, Numbers}
+use Rattle.seg_values.specs.declared.error.TantivyError.TheVariants.{SchemaError, InvalidArgument, IndexAlreadyExists, OpenReadError, OpenWriteError, IoError, DataCorruption, SystemError, FieldNotFound, OutOfMemory}
 use Rattle.seg_directory.specs.Files.{NamedFiles}
 use Rattle.seg_directory.specs.DirectoryStates.{DirectoryState}
 use Rattle.seg_meta.specs.IndexOfFiles as index
@@ -17,6 +19,7 @@ use Rattle.seg_meta.specs.Metas.{SegmentParts, segment_of}
 use Rattle.seg_meta.specs.MetaMeaning.{meta_of, settings_of}
 use Rattle.seg_meta.specs.declared.index_meta.IndexMeta.{IndexMeta}
 use Rattle.seg_model.specs.Fields.{Schema}
+use Rattle.seg_model.specs.Refusals.{IfRefusal}
 use Rattle.seg_model.specs.ValidInputs.{settings_fit}
 use Rattle.seg_segment.specs.IndexForms.{segment_forms}
 use Rattle.seg_segment.specs.ReadErrors.{IsNoDamage, IsReadError}
@@ -24,21 +27,19 @@ use Rattle.seg_segment.proofs.Exports.{Unchanged, rose_before, failing, same_err
 use Rattle.seg_merger.specs.Merger.{all_fit}
 use Rattle.seg_open.specs.OpenSegment.{OpenSegment}
 use Rattle.seg_index_build.specs.MergeAnswers.{AllHaveHeld, CanBeMerged, IsMergeError, LiveAreWhole}
-use Rattle.seg_index_build.specs.MergedSegments.{AreMerged, AreOfOne, first_schema, is_live, joined, live_asked, live_documents}
+use Rattle.seg_index_build.specs.MergedSegments.{AreMerged, AreOfOne, IsRefusal, first_schema, is_live, joined, live_asked, live_documents}
 use Rattle.seg_index_build.specs.TwoDirectories.{Directories, goes_on, stops}
-use Rattle.seg_tool.specs.DirectoryCalls.{IsReady}
-use Rattle.seg_tool.specs.Indexes.{HasMergeableIndex, HasWholeLiveSegments, merged_of}
-use Rattle.seg_tool.specs.Jobs.{Merges, MergesText, MergesWork, WithStatus, merge_of}
+use Rattle.seg_index_build.proofs.Exports.{read_unrefused}
+use Rattle.seg_tool.specs.Job.{IsReady}
+use Rattle.seg_tool.specs.Merge.{HasMergeableIndex, HasWholeLiveSegments, Merges, MergesText, MergesWork, RefusesMerge, merge_of, merged_of}
 use Rattle.seg_tool.specs.ReadingBack.{PrintsIndex}
-use Rattle.seg_tool.specs.Runs.{EndsJob, World}
 use Rattle.seg_tool.specs.Statuses.{status_of}
-use Rattle.seg_tool.specs.declared.status.Status.{Status}
-use Rattle.seg_tool.specs.declared.status.Status.TheVariants.{Damaged, Exists, Memory}
+use Rattle.seg_tool.specs.declared.status.Status.TheVariants.{Memory}
 use Rattle.seg_tool.specs.declared.words.Detail.TheVariants.{Brief}
 use Rattle.seg_tool.proofs.BuildLaws.{read_exists}
 use Rattle.seg_tool.proofs.IndexLaws.{load_index, load_rose, load_so, load_stays, load_undamaged, prints_rose, prints_so, prints_undamaged, tells_on}
-use Rattle.seg_tool.proofs.JobLaws.{first_of, job_so, memory_left}
-use Rattle.seg_tool.proofs.StatusLaws.{exists_only, memory_only, undamaged_as}
+use Rattle.seg_tool.proofs.MergedText.{first_of}
+use Rattle.seg_tool.proofs.StatusLaws.{memory_left, memory_only}
 use Rattle.seg_tool.proofs.Steady.{BothSteady, merges_steady}
 
 -- ---- what is asked for
@@ -125,6 +126,43 @@ module _ (a b : Directories) where
   pub merge_memory : (e : TantivyError) → MergesText (Err e) a b → status_of e ≡ Memory → e ≡ OutOfMemory
   merge_memory e h = exit_memory e (exit_of e a b h)
 
+-- ---- why it refuses
+
+module _ (a b : Directories) where
+  why_of : (metas : IndexMeta) (cause : ArgumentCause)
+      → IsRefusal (merge_of metas) (merge_of metas).segments (Some (InvalidArgument cause)) ⊎ ((cause ≡ Documents) ⊎ (cause ≡ Numbers))
+      → IsRefusal (merge_of metas) (listed_segments metas) (Some (InvalidArgument cause))
+      ⊎ ((InvalidArgument cause ≡ InvalidArgument Documents) ⊎ (InvalidArgument cause ≡ InvalidArgument Numbers))
+  why_of metas cause (inl refusal) = inl refusal
+  why_of metas cause (inr (inl is)) = inr (inl (ap InvalidArgument is))
+  why_of metas cause (inr (inr is)) = inr (inr (ap InvalidArgument is))
+
+  merging_refuses : (metas : IndexMeta) (m : Directories) → LoadsMetas (Ok metas) a.work m.work → (e : TantivyError)
+      → IsMergeError (merge_of metas) m b e → IfRefusal (RefusesMerge a b) e
+  merging_refuses metas m loads (InvalidArgument cause) h = record {
+    metas = metas;
+    is_index = λ told. load_index a.work m.work metas told loads;
+    why = why_of metas cause h;
+  }
+  merging_refuses metas m loads (SchemaError cause) h = absurd h
+  merging_refuses metas m loads IndexAlreadyExists h = tt
+  merging_refuses metas m loads OpenReadError h = tt
+  merging_refuses metas m loads OpenWriteError h = tt
+  merging_refuses metas m loads IoError h = tt
+  merging_refuses metas m loads (DataCorruption name) h = tt
+  merging_refuses metas m loads SystemError h = tt
+  merging_refuses metas m loads FieldNotFound h = tt
+  merging_refuses metas m loads OutOfMemory h = tt
+
+  exit_refuses : (e : TantivyError) → Exits e a b → IfRefusal (RefusesMerge a b) e
+  exit_refuses e (at_loading l) = read_unrefused (RefusesMerge a b) e (load_so a.work b.work e l)
+  exit_refuses e (at_merging metas m l same k) = merging_refuses metas m l e k.errors
+  exit_refuses e (at_printing metas merged m n l same k prints) =
+      read_unrefused (RefusesMerge a b) e (prints_so [] (codes "output") Brief n.output b.output e prints)
+
+  pub merge_refuses : (e : TantivyError) → MergesText (Err e) a b → IfRefusal (RefusesMerge a b) e
+  merge_refuses e h = exit_refuses e (exit_of e a b h)
+
 -- ---- what is known on the way
 
 module _ (a m : Directories) (same_output : m.output ≡ a.output) where
@@ -175,13 +213,8 @@ module _ (a b : Directories) (told : IsTrue a.output.tells) (none : len a.output
   exit_fresh e (at_printing metas merged m n l same k prints) at =
       read_exists e (prints_so [] (codes "output") Brief n.output b.output e prints) at
 
-pub ended_fresh : {K : Type 0} {status : Status} {sink sink_after : K} {a b : World}
-    → EndsJob (WithStatus MergesText) status sink sink_after a b → IsTrue a.directories.output.tells
-    → len a.directories.output.files ≡ 0 → (x : TantivyError) → status ≢ Exists x
-ended_fresh {a = a} {b = b} ends told none =
-    job_so ends (λ (s : Status). (x : TantivyError) → s ≢ Exists x) (λ x at. cc at) (λ x at. cc at)
-    (λ e h x at. exists_only e x at
-    (exit_fresh a.directories b.directories told none e (exit_of e a.directories b.directories h)))
+  pub merge_fresh : (e : TantivyError) → MergesText (Err e) a b → e ≢ IndexAlreadyExists
+  merge_fresh e h = exit_fresh e (exit_of e a b h)
 
 -- ---- no file is found damaged, where segments with a live document are whole
 
@@ -195,13 +228,8 @@ module _ (a b : Directories) (told : IsTrue a.work.tells) (told_out : IsTrue a.o
       prints_undamaged [] (codes "output") Brief n.output b.output (meta_of merged) (told_merged a m same metas merged n k told_out)
       is.is_index e is.whole prints
 
-pub ended_whole : {K : Type 0} {status : Status} {sink sink_after : K} {a b : World}
-    → EndsJob (WithStatus MergesText) status sink sink_after a b → IsTrue a.directories.work.tells
-    → IsTrue a.directories.output.tells → HasWholeLiveSegments a.directories.work.files → (x : TantivyError) → status ≢ Damaged x
-ended_whole {a = a} {b = b} ends told told_out has =
-    job_so ends (λ (s : Status). (x : TantivyError) → s ≢ Damaged x) (λ x at. cc at) (λ x at. cc at)
-    (λ e h x at. undamaged_as e x at
-    (exit_undamaged a.directories b.directories told told_out has e (exit_of e a.directories b.directories h)))
+  pub merge_undamaged : (e : TantivyError) → MergesText (Err e) a b → IsNoDamage e
+  merge_undamaged e h = exit_undamaged e (exit_of e a b h)
 
 -- ---- it ends well
 
@@ -249,7 +277,7 @@ module _ (a b : Directories) (can : HasMergeableIndex a.work b.work) (ready : Is
 
   load_starves : (e : TantivyError) → LoadsMetas (Err e) a.work b.work → status_of e ≡ Memory
   load_starves e loads =
-      memory_left a b e (load_so a.work b.work e loads)
+      memory_left e (load_so a.work b.work e loads)
       (load_undamaged a.work b.work e can.has.meta can.tells can.has.is_index loads)
       (λ is. can.sound (load_rose a.work b.work (subst (λ (x : TantivyError). LoadsMetas (Err x) a.work b.work) is loads)))
 
@@ -259,7 +287,7 @@ module _ (a b : Directories) (can : HasMergeableIndex a.work b.work) (ready : Is
     print_starves e prints =
         let is = k.output_whole (told_still a m same ready.tells) in
         let told = told_merged a m same metas merged n k ready.tells in
-        memory_left a b e
+        memory_left e
         (prints_so [] (codes "output") Brief n.output b.output e prints)
         (prints_undamaged [] (codes "output") Brief n.output b.output (meta_of merged) told is.is_index e is.whole prints)
         (λ at.

@@ -8,8 +8,10 @@ use Rattle.seg_directory.specs.Disk.{IsImage}
 use Rattle.seg_directory.specs.DiskChanges.{KeepsDisk}
 use Rattle.seg_directory.specs.FileDisks.{FileDisk}
 use Rattle.seg_directory.specs.Files.{NamedFiles}
-use Rattle.seg_directory.specs.DirectoryStates.{DiskState, HasOnly, IsEmptyDisk, LeavesOnly}
-use Rattle.seg_tool.specs.AfterCrash.{HasNoIndex}
+use Rattle.seg_directory.specs.DirectoryStates.{DirectoryState, DiskState, HasOnly, IsEmptyDisk, LeavesOnly}
+use Rattle.seg_index_build.specs.TwoDirectories.{Directories}
+use Rattle.seg_tool.specs.Job.{CrashLeaves, HasNoIndex}
+use Rattle.seg_tool.specs.declared.status.Status.{Status}
 
 -- it has no index
 pub none_there : (s : DiskState) → IsEmptyDisk s → HasOnly HasNoIndex s.now
@@ -48,3 +50,11 @@ pub leaves_weaker : (P Q : NamedFiles → Type 0) (old new : DiskState) → ((fi
 leaves_weaker P Q old new weaker leaves =
     leaves_only Q old new (passes_weaker (λ d only files image. weaker files (only files image)) leaves.during)
     (λ files image. weaker files (leaves.after files image))
+
+-- an output that isn't called
+pub unused_leaves : (a b : Directories) → IsEmptyDisk a.output.disk → b.output ≡ a.output → (status : Status)
+    → CrashLeaves HasNoIndex HasNoIndex status a b
+unused_leaves a b clean same status =
+    let left : LeavesOnly HasNoIndex a.output.disk b.output.disk =
+    still_empty HasNoIndex (λ files none. none) a.output.disk b.output.disk (ap (λ (s : DirectoryState). s.disk) same) clean in
+    record { any_moment = left; at_rest = λ at. left.after }

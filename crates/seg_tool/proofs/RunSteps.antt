@@ -4,8 +4,10 @@ use Rattle.std.specs.Prelude.{String}
 use Rattle.std.specs.declared.alloc.Global.{Global}
 use Rattle.seg_model.specs.Fields.{Analyzer}
 use Rattle.seg_model.specs.ValidInputs.{Known}
-use Rattle.seg_tool.specs.Jobs.{GeneratesText, MergesText, ShowsText, WithStatus}
-use Rattle.seg_tool.specs.Runs.{EndsJob, Runs, RunsBuild, RunsCommand, World}
+use Rattle.seg_tool.specs.Generate.{GeneratesText}
+use Rattle.seg_tool.specs.Merge.{MergesText}
+use Rattle.seg_tool.specs.Runs.{EndsJob, Runs, RunsBuild, RunsCommand, WithStatus, World}
+use Rattle.seg_tool.specs.Show.{ShowsText}
 use Rattle.seg_tool.specs.Words.{command_of}
 use Rattle.seg_tool.specs.declared.status.Status.{Status}
 use Rattle.seg_tool.specs.declared.words.Command.{Command}

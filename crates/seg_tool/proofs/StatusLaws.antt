@@ -1,32 +1,24 @@
 -- The statuses of errors.
-use Rattle.std.proofs.Common.{◌≡◌, ◌≢◌, ◌∙◌, ℕ, List, Option, None, Some, Result, Ok, Err, refl, sym, ap, subst}
+use Rattle.std.proofs.Common.{◌≡◌, ◌≢◌, ◌∙◌, ℕ, List, Option, None, Some, Result, Ok, Err, refl, sym, subst}
 use Rattle.std.specs.Prelude.{IfSome}
-use Rattle.seg_common.specs.declared.name.FileName.{FileName}
 use Rattle.seg_values.specs.declared.error.TantivyError.{TantivyError}
 use Rattle.seg_values.specs.declared.error.TantivyError.TheVariants.{SchemaError, InvalidArgument, IndexAlreadyExists, OpenReadError, OpenWriteError, IoError, DataCorruption, SystemError, FieldNotFound, OutOfMemory}
 use Rattle.seg_model.specs.Fields.{Analyzer}
 use Rattle.seg_model.specs.Input.{Input}
 use Rattle.seg_model.specs.Refusals.{IfRefusal, IsRefusal}
 use Rattle.seg_model.specs.ValidInputs.{Known, input_refusal}
-use Rattle.seg_open.specs.OpeningSteps.{IsNoDamage}
+use Rattle.seg_segment.specs.ReadErrors.{IsNoDamage, IsReadError}
 use Rattle.seg_check.proofs.Exports.{first_is_refusal}
 use Rattle.seg_index_build.specs.TwoDirectories.{Directories}
-use Rattle.seg_tool.specs.DirectoryCalls.{JobDoes, StopsAs}
-use Rattle.seg_tool.specs.Jobs.{with_status}
-use Rattle.seg_tool.specs.Statuses.{IfRefused, IfWritten, status_of}
+use Rattle.seg_tool.specs.Job.{IfReadOut, IsCaused, Job, JobDoes, StopsAs}
+use Rattle.seg_tool.specs.Runs.{with_status}
+use Rattle.seg_tool.specs.Statuses.{IfWritten, status_of}
 use Rattle.seg_tool.specs.declared.status.Status.{Status}
 use Rattle.seg_tool.specs.declared.status.Status.TheVariants.{Done, Words, Script, Refused, Exists, Directory, Damaged, Stream, Memory}
 
 -- ---- kinds of statuses
 
--- one without a text, of a command
-abbrev pub IsEarly : Status → Type 0
-IsEarly Done = ⊥
-IsEarly Words = ⊥
-IsEarly Stream = ⊥
-IsEarly _ = Unit {0}
-
--- and one of an error
+-- one of an error
 abbrev pub IsOfError : Status → Type 0
 IsOfError Done = ⊥
 IsOfError Words = ⊥
@@ -46,28 +38,6 @@ of_error SystemError = tt
 of_error FieldNotFound = tt
 of_error OutOfMemory = tt
 
-pub early_error : (s : Status) → IsOfError s → IsEarly s
-early_error Done h = h
-early_error Words h = h
-early_error Script h = tt
-early_error Stream h = h
-early_error (Refused e) h = tt
-early_error (Exists e) h = tt
-early_error (Directory e) h = tt
-early_error (Damaged e) h = tt
-early_error Memory h = tt
-
-pub if_refused : (s : Status) (P : Type 0) → P → IfRefused s (λ _. P)
-if_refused (Refused e) P p = p
-if_refused Done P p = tt
-if_refused Words P p = tt
-if_refused Script P p = tt
-if_refused (Exists e) P p = tt
-if_refused (Directory e) P p = tt
-if_refused (Damaged e) P p = tt
-if_refused Stream P p = tt
-if_refused Memory P p = tt
-
 pub when_written : (s : Status) (P : Type 0) → P → IfWritten s (λ _. P)
 when_written (Exists e) P p = p
 when_written (Directory e) P p = p
@@ -78,28 +48,6 @@ when_written Script P p = tt
 when_written (Refused e) P p = tt
 when_written Stream P p = tt
 when_written Memory P p = tt
-
-pub refused_then : (P Q : TantivyError → Type 0) (s : Status) → ((e : TantivyError) → P e → Q e) → IfRefused s P → IfRefused s Q
-refused_then P Q (Refused e) f p = f e p
-refused_then P Q Done f p = tt
-refused_then P Q Words f p = tt
-refused_then P Q Script f p = tt
-refused_then P Q (Exists e) f p = tt
-refused_then P Q (Directory e) f p = tt
-refused_then P Q (Damaged e) f p = tt
-refused_then P Q Stream f p = tt
-refused_then P Q Memory f p = tt
-
-pub written_then : (P Q : TantivyError → Type 0) (s : Status) → ((e : TantivyError) → P e → Q e) → IfWritten s P → IfWritten s Q
-written_then P Q (Exists e) f p = f e p
-written_then P Q (Directory e) f p = f e p
-written_then P Q (Damaged e) f p = f e p
-written_then P Q Done f p = tt
-written_then P Q Words f p = tt
-written_then P Q Script f p = tt
-written_then P Q (Refused e) f p = tt
-written_then P Q Stream f p = tt
-written_then P Q Memory f p = tt
 
 -- ---- of errors
 
@@ -128,18 +76,6 @@ undamaged_as IoError x is h = cc is
 undamaged_as SystemError x is h = cc is
 undamaged_as FieldNotFound x is h = cc is
 undamaged_as OutOfMemory x is h = cc is
-
-pub refused_as : (P : TantivyError → Type 0) (e : TantivyError) → IfRefusal P e → IfRefused (status_of e) P
-refused_as P (SchemaError cause) h = h
-refused_as P (InvalidArgument cause) h = h
-refused_as P IndexAlreadyExists h = tt
-refused_as P OpenReadError h = tt
-refused_as P OpenWriteError h = tt
-refused_as P IoError h = tt
-refused_as P (DataCorruption name) h = tt
-refused_as P SystemError h = tt
-refused_as P FieldNotFound h = tt
-refused_as P OutOfMemory h = tt
 
 -- each first error is a refusal's
 status_is : (e : TantivyError) → IsRefusal e → status_of e ≡ Refused e
@@ -174,6 +110,67 @@ memory_only P system field OpenReadError p is = absurd (cc is)
 memory_only P system field OpenWriteError p is = absurd (cc is)
 memory_only P system field IoError p is = absurd (cc is)
 memory_only P system field (DataCorruption name) p is = absurd (cc is)
+
+-- and where files are read that are not damaged, by a directory that doesn't fail
+pub memory_left : (e : TantivyError) → IsReadError e → IsNoDamage e → e ≢ OpenReadError → status_of e ≡ Memory
+memory_left OutOfMemory h k not = refl
+memory_left OpenReadError h k not = absurd (not refl)
+memory_left (DataCorruption name) h k not = absurd k
+memory_left (SchemaError cause) h k not = absurd h
+memory_left (InvalidArgument cause) h k not = absurd h
+memory_left IndexAlreadyExists h k not = absurd h
+memory_left OpenWriteError h k not = absurd h
+memory_left IoError h k not = absurd h
+memory_left SystemError h k not = absurd h
+memory_left FieldNotFound h k not = absurd h
+
+pub refusal_then : (P Q : TantivyError → Type 0) (e : TantivyError) → ((x : TantivyError) → P x → Q x) → IfRefusal P e → IfRefusal Q e
+refusal_then P Q (SchemaError cause) f h = f (SchemaError cause) h
+refusal_then P Q (InvalidArgument cause) f h = f (InvalidArgument cause) h
+refusal_then P Q IndexAlreadyExists f h = tt
+refusal_then P Q OpenReadError f h = tt
+refusal_then P Q OpenWriteError f h = tt
+refusal_then P Q IoError f h = tt
+refusal_then P Q (DataCorruption name) f h = tt
+refusal_then P Q SystemError f h = tt
+refusal_then P Q FieldNotFound f h = tt
+refusal_then P Q OutOfMemory f h = tt
+
+pub refusal_any : (P : Type 0) (e : TantivyError) → P → IfRefusal (λ _. P) e
+refusal_any P (SchemaError cause) h = h
+refusal_any P (InvalidArgument cause) h = h
+refusal_any P IndexAlreadyExists h = tt
+refusal_any P OpenReadError h = tt
+refusal_any P OpenWriteError h = tt
+refusal_any P IoError h = tt
+refusal_any P (DataCorruption name) h = tt
+refusal_any P SystemError h = tt
+refusal_any P FieldNotFound h = tt
+refusal_any P OutOfMemory h = tt
+
+-- the cause of a refusal is one of the word's
+pub caused_as : (job : Job) (a b : Directories) (e : TantivyError) → IfRefusal (job.Refuses a b) e → IsCaused job (status_of e) a b
+caused_as job a b (SchemaError cause) h = h
+caused_as job a b (InvalidArgument cause) h = h
+caused_as job a b IndexAlreadyExists h = tt
+caused_as job a b OpenReadError h = tt
+caused_as job a b OpenWriteError h = tt
+caused_as job a b IoError h = tt
+caused_as job a b (DataCorruption name) h = tt
+caused_as job a b SystemError h = tt
+caused_as job a b FieldNotFound h = tt
+caused_as job a b OutOfMemory h = tt
+
+pub read_out : (s : Status) (P : Type 0) → P → IfReadOut s P
+read_out Done P p = p
+read_out (Refused e) P p = p
+read_out (Exists e) P p = p
+read_out (Directory e) P p = p
+read_out (Damaged e) P p = p
+read_out Words P p = tt
+read_out Script P p = tt
+read_out Stream P p = tt
+read_out Memory P p = tt
 
 -- what a job does, by the status of its error
 module _ (does : Result (List ℕ) TantivyError → Directories → Directories → Type 0) (a b : Directories) where

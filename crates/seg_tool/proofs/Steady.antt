@@ -14,8 +14,9 @@ use Rattle.seg_segment.proofs.Exports.{Unchanged}
 use Rattle.seg_open.specs.OpenSegment.{OpenSegment}
 use Rattle.seg_open.specs.OpeningSteps.{OpensSegments}
 use Rattle.seg_open.proofs.Exports.{segments_stay}
-use Rattle.seg_index_build.specs.DirectoryCalls.{BeginsIndexes, BuildsIndexes, WritesIndexes, merge_of}
+use Rattle.seg_index_build.specs.DirectoryCalls.{BeginsIndexes, BuildsIndexes, FillsWork, WritesIndexes, merge_of}
 use Rattle.seg_index_build.specs.MergedSegments.{FillsOutput, MergeInput, MergesLive, MergesSegments, fills, live_asked, mixes, starves}
+use Rattle.seg_index_build.specs.WorkIndexSteps.{after_batches, in_batches}
 use Rattle.seg_index_build.specs.TwoDirectories.{Directories, InOutput, InWork, Passes, Then, goes_on, stops}
 
 -- ---- one directory
@@ -119,10 +120,14 @@ module _ (known : Known) (analyzer : Analyzer) (input : Input) where
       (λ u. in_turn _ _ (in_output _ (λ r a b h. works_steady r a b h))
       (λ v. in_work _ (λ r a b h. works_steady r a b h)))
 
+  filled_steady : (r : Result (Unit {0}) TantivyError) (a b : DirectoryState) → FillsWork analyzer input r a b → Steady a b
+  filled_steady r a b (in_batches e is h) = works_steady {T = Unit {0}} (Err e) a b h.works
+  filled_steady r a b (after_batches m h k) = then_steady a m b (works_steady (Ok tt) a m h.works) (works_steady r m b k.works)
+
   writes_steady : (r : Result IndexMeta TantivyError) (a b : Directories) → WritesIndexes analyzer input r a b → BothSteady a b
   writes_steady =
       in_turn _ _ begins_steady
-      (λ u. in_turn _ _ (in_work _ (λ r a b h. works_steady r a b h.works)) (λ v. live_steady (merge_of analyzer input)))
+      (λ u. in_turn _ _ (in_work _ filled_steady) (λ v. live_steady (merge_of analyzer input)))
 
   pub builds_steady : (r : Result IndexMeta TantivyError) (a b : Directories) → BuildsIndexes known analyzer input r a b → BothSteady a b
   builds_steady r a b h = in_turn _ _ (λ q c d k. both_there c d k.1) (λ u. writes_steady) r a b h

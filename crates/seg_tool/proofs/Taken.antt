@@ -20,7 +20,7 @@ use Rattle.seg_model.specs.ValidInputs.{Known}
 use Rattle.seg_open.specs.OpeningSteps.{Asked, Found, alive_steps, all_steps, segment_steps}
 use Rattle.seg_index_build.specs.TakenBatches.{HoldsTaken, gained}
 use Rattle.seg_index_build.specs.TwoDirectories.{Directories}
-use Rattle.seg_index_build.proofs.Exports.{builds_seen, gained_as, holds_taken, told_both}
+use Rattle.seg_index_build.proofs.Exports.{builds_seen, gained_as, told_both}
 use Rattle.seg_tool.specs.Printing.{opening}
 use Rattle.seg_tool.specs.ReadingBack.{PrintsIndex, all_of, fails, loaded, not_loaded, reads}
 use Rattle.seg_tool.specs.Taken.{before_meta, reads_meta}
@@ -117,4 +117,4 @@ module _ (known : Known) (analyzer : Analyzer) (input : Input) (detail : Detail)
       subst (λ (answers : List Answer). HoldsTaken analyzer input answers b.output.files) (sym answers_are)
       (subst (λ (files : NamedFiles). HoldsTaken analyzer input of_building files)
       (sym (output_stays known analyzer input detail text a b p))
-      (holds_taken p.metas known analyzer input a p.between p.built.calls told))
+      (p.built.ends.reads told))

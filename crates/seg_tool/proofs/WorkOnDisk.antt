@@ -7,7 +7,7 @@ use Rattle.seg_directory.specs.FileDisks.{FileDisk}
 use Rattle.seg_directory.specs.DirectoryStates.{DirectoryState}
 use Rattle.seg_index_build.specs.MergedSegments.{MergeInput, MergesLive, MergesSegments, live_asked}
 use Rattle.seg_index_build.specs.TwoDirectories.{Directories, Then, goes_on, stops}
-use Rattle.seg_tool.specs.Jobs.{MergesText, merge_of}
+use Rattle.seg_tool.specs.Merge.{MergesText, merge_of}
 use Rattle.seg_tool.proofs.ReadingOnDisk.{load_keeps, opens_keep}
 
 -- no image changes, where the disk is told

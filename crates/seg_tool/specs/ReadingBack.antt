@@ -1,12 +1,20 @@
 -- The text of an index, of what a directory answers.
-use Rattle.std.specs.Prelude.{ℕ, ◌≡◌, List, ◌++◌, map, None, Result, Ok, Err}
+use Rattle.std.specs.Prelude.{ℕ, ◌≡◌, List, [], ◌∷◌, ◌++◌, map, None, Some, Result, Ok, Err}
 use Rattle.seg_index_build.specs.MergedIndices.{listed_segments}
 use Rattle.seg_values.specs.declared.error.TantivyError.{TantivyError}
+use Rattle.seg_directory.specs.Files.{NamedFiles}
 use Rattle.seg_directory.specs.DirectoryStates.{DirectoryState}
+use Rattle.seg_meta.specs.IndexOfFiles as index
+use Rattle.seg_meta.specs.IndexOfFiles.{ListedSegment}
 use Rattle.seg_meta.specs.MetaSteps.{LoadsMetas}
 use Rattle.seg_meta.specs.Metas.{SegmentParts}
+use Rattle.seg_meta.specs.MetaMeaning.{meta_of}
 use Rattle.seg_meta.specs.declared.index_meta.IndexMeta.{IndexMeta}
-use Rattle.seg_open.specs.OpenSegment.{OpenSegment}
+use Rattle.seg_model.specs.Fields.{Schema}
+use Rattle.seg_segment.specs.IndexForms.{segment_forms}
+use Rattle.seg_segment.specs.AliveFiles.{HoldsMarks}
+use Rattle.seg_segment.specs.FileContents.{Holds}
+use Rattle.seg_open.specs.OpenSegment.{OpenSegment, contents_of}
 use Rattle.seg_open.specs.OpeningSteps.{Asked, Opens, OpensSegments}
 use Rattle.seg_tool.specs.Printing.{read_segment_text, read_texts}
 use Rattle.seg_tool.specs.declared.words.Detail.{Detail}
@@ -43,3 +51,28 @@ pub data PrintsIndex (front label : List ℕ) (detail : Detail) (result : Result
   loaded : (metas : IndexMeta) (between : DirectoryState) → LoadsMetas (Ok metas) before between
       → ReadsText front label detail (all_of (listed_segments metas)) result between after
       → PrintsIndex front label detail result before after
+
+-- ---- where the files are told
+
+-- an open segment has what the files hold of a listed segment
+pub record IsReadOf (files : NamedFiles) (schema : Schema) (listed : ListedSegment) (s : OpenSegment) : Type 0 where
+  pub of_id : s.id ≡ listed.id
+  pub of_schema : s.schema ≡ schema
+  pub holds : Holds files listed.id schema (contents_of s)
+  pub alive : HoldsMarks files listed.id listed.documents listed.deletes s.alive
+
+-- and each
+abbrev pub AreReadOf : NamedFiles → Schema → List ListedSegment → List OpenSegment → Type 0
+AreReadOf files schema [] [] = Unit {0}
+AreReadOf files schema [] (s ∷ opened) = ⊥
+AreReadOf files schema (l ∷ listed) [] = ⊥
+AreReadOf files schema (l ∷ listed) (s ∷ opened) = IsReadOf files schema l s × AreReadOf files schema listed opened
+
+-- the files have an index, of which these segments were opened, one after another; this is their text, after what was
+-- printed before
+pub record IsPrinted (front label : List ℕ) (detail : Detail) (files : NamedFiles) (text : List ℕ) : Type 0 where
+  pub metas : IndexMeta
+  pub is_index : index.index_of segment_forms files ≡ Some (meta_of metas)
+  pub opened : List OpenSegment
+  pub are_read : AreReadOf files metas.schema metas.segments opened
+  pub printed : text ≡ front ++ read_texts label detail opened

@@ -5,17 +5,50 @@ use Rattle.std.specs.declared.alloc.Global.{Global}
 use Rattle.seg_common.specs.FaultCounts.{Rose}
 use Rattle.seg_common.specs.IdleReads.{Idle, OnlyLastIsIdle}
 use Rattle.seg_common.specs.Streams.{AppendsPart, IsAllOf, TakesAtMost}
+use Rattle.seg_values.specs.declared.error.TantivyError.{TantivyError}
 use Rattle.seg_model.specs.Fields.{Analyzer}
+use Rattle.seg_model.specs.Input.{Input}
 use Rattle.seg_model.specs.ValidInputs.{Known}
 use Rattle.seg_index_build.specs.TwoDirectories.{Directories}
-use Rattle.seg_tool.specs.Jobs.{BuildsScript, GeneratesText, MergesText, ShowsText, WithStatus}
-use Rattle.seg_tool.specs.Run.{max_script}
+use Rattle.seg_script.specs.Script.{script}
+use Rattle.seg_tool.specs.Build.{max_script}
+use Rattle.seg_tool.specs.Generate.{GeneratesText}
+use Rattle.seg_tool.specs.InputIndexes.{BuildsText}
+use Rattle.seg_tool.specs.Merge.{MergesText}
+use Rattle.seg_tool.specs.Show.{ShowsText}
+use Rattle.seg_tool.specs.Statuses.{status_of}
 use Rattle.seg_tool.specs.Words.{command_of}
 use Rattle.seg_tool.specs.declared.status.Status.{Status}
 use Rattle.seg_tool.specs.declared.status.Status.TheVariants.{Done, Words, Script, Stream, Memory}
 use Rattle.seg_tool.specs.declared.words.Command.{Command}
 use Rattle.seg_tool.specs.declared.words.Command.TheVariants.{Build, Generate, Merge, Show}
 use Rattle.seg_tool.specs.declared.words.Detail.{Detail}
+
+-- ---- with statuses
+
+-- a result, with the status of its error
+abbrev pub with_status : {T : Type 0} → Result T TantivyError → Result T Status
+with_status (Ok x) = Ok x
+with_status (Err e) = Err (status_of e)
+
+-- a text is made, or the status is that of an error
+pub record WithStatus (does : Result (List ℕ) TantivyError → Directories → Directories → Type 0)
+    (result : Result (List ℕ) Status) (before after : Directories) : Type 0 where
+  pub answer : Result (List ℕ) TantivyError
+  pub is : result ≡ with_status answer
+  pub does_so : does answer before after
+
+-- bytes are no script; memory ran out; or the text of their input is made
+pub data BuildsScript (known : Known) (analyzer : Analyzer) (detail : Detail) (bytes : List ℕ)
+    (result : Result (List ℕ) Status) (before after : Directories) : Type 0 where
+  no_script : result ≡ Err Script → script bytes ≡ None → after ≡ before
+      → BuildsScript known analyzer detail bytes result before after
+  no_memory : result ≡ Err Memory → after ≡ before → BuildsScript known analyzer detail bytes result before after
+  of_input : (meant : Input) → script bytes ≡ Some meant
+      → WithStatus (BuildsText known analyzer meant detail) result before after
+      → BuildsScript known analyzer detail bytes result before after
+
+-- ---- all that a run touches
 
 -- what is told of a source, and of a sink
 pub record SourceState : Type 0 where

@@ -1,5 +1,5 @@
 -- The numbers of statuses, and the line that is said of each.
-use Rattle.std.specs.Prelude.{ℕ, ◌≡◌, ◌⊎◌, List, [], ◌∷◌, ◌++◌, codes, decimal}
+use Rattle.std.specs.Prelude.{ℕ, List, [], ◌∷◌, ◌++◌, codes, decimal}
 use Rattle.seg_common.specs.FileNames.{name_text}
 use Rattle.seg_values.specs.declared.error.TantivyError.{TantivyError}
 use Rattle.seg_values.specs.declared.error.TantivyError.TheVariants.{SchemaError, InvalidArgument, IndexAlreadyExists, OpenReadError, OpenWriteError, IoError, DataCorruption}
@@ -22,21 +22,12 @@ number_of (Damaged e) = 7
 number_of Stream = 8
 number_of Memory = 9
 
--- a fact of the error, where a run was refused
-abbrev pub IfRefused : Status → (TantivyError → Type 0) → Type 0
-IfRefused (Refused e) P = P e
-IfRefused _ P = Unit {0}
-
 -- a fact of the error, where a directory was not empty, failed or has a file that is damaged
 abbrev pub IfWritten : Status → (TantivyError → Type 0) → Type 0
 IfWritten (Exists e) P = P e
 IfWritten (Directory e) P = P e
 IfWritten (Damaged e) P = P e
 IfWritten _ P = Unit {0}
-
--- refused for this, or before that no memory, or a source that failed
-abbrev pub RefusedFor : TantivyError → Status → Type 0
-RefusedFor e status = (status ≡ Refused e) ⊎ ((status ≡ Memory) ⊎ (status ≡ Stream))
 
 -- the status of an error of an index
 abbrev pub status_of : TantivyError → Status
@@ -125,12 +116,3 @@ status_line (Directory e) = fault_text e ++ 10 ∷ []
 status_line (Damaged e) = damage_text e
 status_line Stream = codes "stream: read or write failed" ++ 10 ∷ []
 status_line Memory = codes "memory: not enough" ++ 10 ∷ []
-
--- a status of an error of an index
-abbrev pub IsOfErrors : Status → Type 0
-IsOfErrors (Refused e) = Unit {0}
-IsOfErrors (Exists e) = Unit {0}
-IsOfErrors (Directory e) = Unit {0}
-IsOfErrors (Damaged e) = Unit {0}
-IsOfErrors Memory = Unit {0}
-IsOfErrors _ = ⊥

@@ -1,14 +1,10 @@
 -- What a run of `build` took of the batches, as the answers of the work directory tell it.
-use Rattle.std.specs.Prelude.{ℕ, ◌≡◌, List, [], ◌∷◌, Bool, false, if◌then◌else◌, Some}
+use Rattle.std.specs.Prelude.{List, [], ◌∷◌, Bool, false, if◌then◌else◌}
 use Rattle.std.specs.List.{list_any}
 use Rattle.seg_common.specs.declared.name.FileName.TheVariants.{Meta}
-use Rattle.seg_directory.specs.Files.{NamedFiles}
 use Rattle.seg_directory.specs.declared.answer.Answer.{Answer}
 use Rattle.seg_directory.specs.declared.answer.Answer.TheVariants as answer
-use Rattle.seg_model.specs.Fields.{Analyzer}
-use Rattle.seg_model.specs.Input.{Input}
-use Rattle.seg_index_build.specs.TakenBatches.{HoldsTaken, same_name}
-use Rattle.seg_script.specs.Script.{script}
+use Rattle.seg_index_build.specs.TakenBatches.{same_name}
 
 -- whether an answer gives the bytes of the meta
 abbrev pub reads_meta : Answer → Bool
@@ -21,9 +17,3 @@ before_meta [] = []
 before_meta (a ∷ answers) =
     if list_any reads_meta answers then a ∷ before_meta answers
     else (if reads_meta a then [] else a ∷ before_meta answers)
-
--- the bytes are a script, and the files hold what was taken of its batches, by these answers
-pub record HasTaken (analyzer : Analyzer) (bytes : List ℕ) (answers : List Answer) (files : NamedFiles) : Type 0 where
-  pub meant : Input
-  pub is_script : script bytes ≡ Some meant
-  pub taken : HoldsTaken analyzer meant answers files

@@ -6,7 +6,6 @@ use Rattle.std.specs.Str.{bytes_eq}
 use Rattle.seg_generate.specs.Seeds.{seed_named}
 use Rattle.seg_tool.specs.declared.words.Command.{Command}
 use Rattle.seg_tool.specs.declared.words.Command.TheVariants.{Build, Generate, Merge, Show}
-use Rattle.seg_tool.specs.declared.words.Detail.{Detail}
 use Rattle.seg_tool.specs.declared.words.Detail.TheVariants.{Brief, Full}
 
 -- the job of one word
@@ -28,34 +27,3 @@ command_of [] = None
 command_of (word ∷ []) = of_one (string_bytes word)
 command_of (first ∷ second ∷ []) = of_two (string_bytes first) (string_bytes second)
 command_of (first ∷ second ∷ third ∷ words) = None
-
--- a fact where the words ask for `build`
-abbrev pub IfBuild : Option Command → (Detail → Type 0) → Type 0
-IfBuild (Some (Build detail)) P = P detail
-IfBuild _ P = Unit {0}
-
--- a fact where they ask for `merge`
-abbrev pub IfMerge : Option Command → Type 0 → Type 0
-IfMerge (Some Merge) P = P
-IfMerge _ P = Unit {0}
-
--- a fact where they ask for `show`
-abbrev pub IfShow : Option Command → Type 0 → Type 0
-IfShow (Some Show) P = P
-IfShow _ P = Unit {0}
-
--- a fact where they ask for `generate`, of its number
-abbrev pub IfGenerate : Option Command → (ℕ → Type 0) → Type 0
-IfGenerate (Some (Generate seed)) P = P seed
-IfGenerate _ P = Unit {0}
-
--- a fact where no work index is written
-abbrev pub UnlessWritten : Option Command → Type 0 → Type 0
-UnlessWritten (Some (Build detail)) P = Unit {0}
-UnlessWritten (Some (Generate seed)) P = Unit {0}
-UnlessWritten _ P = P
-
--- a fact where they don't ask for `build`
-abbrev pub UnlessBuild : Option Command → Type 0 → Type 0
-UnlessBuild (Some (Build detail)) P = Unit {0}
-UnlessBuild _ P = P

@@ -1,15 +1,17 @@
-//! From the bytes of a script to its indexes, and to the text of what the directories then answer.
+//! `build`: from the bytes of a script to its indexes, and to the text of what the directories then answer.
 ghost use Rattle.std.specs.Prelude.{◌≡◌, IfOk};
 ghost use Rattle.seg_index_build.specs.TwoDirectories.{both};
 ghost use Rattle.seg_open.specs.Answers.{seen_as};
-ghost use Rattle.seg_tool.specs.Jobs.{BuildsScript, BuildsText};
+ghost use Rattle.seg_tool.specs.InputIndexes.{BuildsText};
 ghost use Rattle.seg_tool.specs.Printing.{opening};
-ghost use Rattle.seg_tool.specs.Statuses.{status_of};
+ghost use Rattle.seg_tool.specs.Runs.{BuildsScript, RunsBuild, sink_state, source_state, world};
 
+use crate::job_text::write_text;
 use crate::reading_back::print_index;
-use crate::status::Status;
+use crate::status::{Status, status_of};
 use crate::words::Detail;
 use seg_check::BuildInput;
+use seg_common::{ReadError, Sink, Source, read_to_end};
 use seg_directory::Directory;
 use seg_generate::push_generated;
 use seg_index_build::build_index_of;
@@ -18,8 +20,39 @@ use seg_tokens::Analyzers;
 use seg_values::{TResult, TantivyError};
 use std::alloc::{AllocError, Global};
 
+/// The most bytes of a script.
+const MAX_SCRIPT: usize = 67_108_864;
+
+/// Reads the source, writes the indexes of its script, and prints them.
+pub(crate) fn run_build<S: Source, K: Sink, Z: Analyzers, W: Directory, O: Directory>(
+    alloc: Global,
+    detail: Detail,
+    source: &mut S,
+    sink: &mut K,
+    analyzers: &Z,
+    work: &mut W,
+    output: &mut O,
+) -> Status
+    ensures { RunsBuild (Z.knows analyzers.now) (Z.tokens_of analyzers.now) detail result sink.old sink.new
+        (world (source_state (S.left source.old) (S.idle source.old) (S.faults source.old))
+        (sink_state (K.written sink.old) (K.faults sink.old)) (both (W.state work.old) (O.state output.old)))
+        (world (source_state (S.left source.new) (S.idle source.new) (S.faults source.new))
+        (sink_state (K.written sink.new) (K.faults sink.new)) (both (W.state work.new) (O.state output.new))) }
+{
+    let bytes = match read_to_end(alloc, source, MAX_SCRIPT) {
+        Ok(bytes) => bytes,
+        Err(ReadError::Fault) => return Status::Stream,
+        Err(ReadError::TooLong) => return Status::Script,
+        Err(ReadError::OutOfMemory) => return Status::Memory,
+    };
+    match build(alloc, analyzers, bytes, detail, work, output) {
+        Ok(text) => write_text(sink, &text),
+        Err(status) => status,
+    }
+}
+
 /// Writes the indexes of a script, and answers what is then printed of them.
-pub(crate) fn build<Z: Analyzers, W: Directory, O: Directory>(
+fn build<Z: Analyzers, W: Directory, O: Directory>(
     alloc: Global,
     analyzers: &Z,
     bytes: Vec<u8>,
@@ -81,20 +114,5 @@ fn opening(alloc: Global, detail: Detail) -> Result<Vec<u8>, AllocError>
         }
         Detail::Brief => Ok(out),
         Detail::Full => Ok(out),
-    }
-}
-
-/// The status of an error of an index.
-pub(crate) fn status_of(error: TantivyError) -> Status
-    ensures { result ≡ status_of error }
-{
-    match error {
-        TantivyError::SchemaError(_) | TantivyError::InvalidArgument(_) => Status::Refused(error),
-        TantivyError::IndexAlreadyExists => Status::Exists(error),
-        TantivyError::OpenReadError | TantivyError::OpenWriteError | TantivyError::IoError => {
-            Status::Directory(error)
-        }
-        TantivyError::DataCorruption { name: _ } => Status::Damaged(error),
-        _ => Status::Memory,
     }
 }

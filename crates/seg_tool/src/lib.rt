@@ -30,13 +30,15 @@ mod segment_text;
 mod summary_line;
 mod summary_totals;
 
-// The text of an index, of what its directory answers.
+// The text of an index, of what its directory answers, and how it is written.
+mod job_text;
 mod reading_back;
 
-// The jobs.
+// The jobs, a word each.
 mod build_job;
 mod generate_job;
 mod merge_job;
+mod show_job;
 
 // The whole.
 mod command;

@@ -1,21 +1,44 @@
-//! From the segments of the work index to an output index of one segment, and to its text.
+//! `merge`: from the segments of the work index to an output index of one segment, and to its text.
 ghost use Rattle.std.specs.Prelude.{◌≡◌, map, None, IfOk};
 ghost use Rattle.seg_index_build.specs.TwoDirectories.{both};
 ghost use Rattle.seg_open.specs.Answers.{seen_as};
-ghost use Rattle.seg_tool.specs.Jobs.{MergesText, MergesWork};
+ghost use Rattle.seg_tool.specs.Merge.{MergesText, MergesWork};
+ghost use Rattle.seg_tool.specs.Runs.{EndsJob, SourceState, WithStatus, sink_state, world};
 
+use crate::job_text::write_text;
 use crate::reading_back::print_index;
+use crate::status::{Status, status_of};
 use crate::words::Detail;
 use seg_bits::AliveBitSet;
-use seg_common::SegmentId;
+use seg_common::{SegmentId, Sink};
 use seg_directory::Directory;
 use seg_index_build::merge_filtered_segments;
 use seg_meta::{Index, Segment};
 use seg_values::{TResult, TantivyError};
 use std::alloc::{AllocError, Global};
 
+/// Merges the segments of the work index, and prints the output index.
+pub(crate) fn run_merge<K: Sink, W: Directory, O: Directory>(
+    alloc: Global,
+    sink: &mut K,
+    work: &mut W,
+    output: &mut O,
+) -> Status
+    ensures { (source : SourceState)
+        → EndsJob (WithStatus MergesText) result sink.old sink.new
+        (world source (sink_state (K.written sink.old) (K.faults sink.old))
+        (both (W.state work.old) (O.state output.old)))
+        (world source (sink_state (K.written sink.new) (K.faults sink.new))
+        (both (W.state work.new) (O.state output.new))) }
+{
+    match merge_and_print(alloc, work, output) {
+        Ok(text) => write_text(sink, &text),
+        Err(e) => status_of(e),
+    }
+}
+
 /// Merges the segments of the work index, and answers what is then printed of the output index.
-pub(crate) fn merge_and_print<W: Directory, O: Directory>(
+fn merge_and_print<W: Directory, O: Directory>(
     alloc: Global,
     work: &mut W,
     output: &mut O,

@@ -1,6 +1,6 @@
 //! How a run went.
 ghost use Rattle.std.specs.Prelude.{◌≡◌};
-ghost use Rattle.seg_tool.specs.Statuses.{number_of};
+ghost use Rattle.seg_tool.specs.Statuses.{number_of, status_of};
 
 use seg_values::TantivyError;
 
@@ -43,5 +43,20 @@ impl Status {
             Status::Stream => 8,
             Status::Memory => 9,
         }
+    }
+}
+
+/// The status of an error of an index.
+pub(crate) fn status_of(error: TantivyError) -> Status
+    ensures { result ≡ status_of error }
+{
+    match error {
+        TantivyError::SchemaError(_) | TantivyError::InvalidArgument(_) => Status::Refused(error),
+        TantivyError::IndexAlreadyExists => Status::Exists(error),
+        TantivyError::OpenReadError | TantivyError::OpenWriteError | TantivyError::IoError => {
+            Status::Directory(error)
+        }
+        TantivyError::DataCorruption { name: _ } => Status::Damaged(error),
+        _ => Status::Memory,
     }
 }

@@ -1,5 +1,5 @@
 use Rattle.std.proofs.Common.{Err, Ok, ap, refl}
-use Rattle.seg_tool.specs.Jobs.{no_memory, no_script, of_input}
+use Rattle.seg_tool.specs.Runs.{no_memory, no_script, of_input}
 use Rattle.seg_tool.proofs.build_job.build.Goals as goal
 
 pub returns-in-Err-NotScript : goal.returns-in-Err-NotScript

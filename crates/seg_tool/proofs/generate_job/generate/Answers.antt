@@ -2,7 +2,8 @@ use Rattle.std.proofs.Common.{refl, subst}
 use Rattle.seg_model.specs.Input.{Input}
 use Rattle.seg_index_build.specs.TwoDirectories.{both}
 use Rattle.seg_open.specs.Answers.{seen_as}
-use Rattle.seg_tool.specs.Jobs.{BuildsText, not_generated, of_generated}
+use Rattle.seg_tool.specs.Generate.{not_generated, of_generated}
+use Rattle.seg_tool.specs.InputIndexes.{BuildsText}
 use Rattle.seg_tool.specs.declared.words.Detail.TheVariants.{Summary}
 use Rattle.seg_tool.proofs.generate_job.generate.Goals as goal
 

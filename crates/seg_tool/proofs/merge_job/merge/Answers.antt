@@ -21,4 +21,4 @@ returns g c =
     (c.deref-2.ensures.value ∙ c.in-Ok-searchable_segments.ensures.ok) c.settings.ensures
     (c.in-Ok-no_filters.ensures ∙ ap (λ (l : List SegmentParts). map (λ _. None) l) (c.deref.ensures.value ∙ sym c.deref-2.ensures.value))
     c.from_u128-id.ensures
-    (record { does = m.does; errors = m.errors; index = m.index; work_stays = m.work_stays; undamaged = m.undamaged; output_whole = m.output_whole; fresh = m.fresh; complete = m.complete; any_moment = m.any_moment; at_rest = m.at_rest }))
+    (record { does = m.does; errors = m.errors; is_merge = m.index; work_stays = m.work_stays; undamaged = m.undamaged; output_whole = m.output_whole; fresh = m.fresh; complete = m.complete; any_moment = m.any_moment; at_rest = m.at_rest }))

@@ -1,6 +1,6 @@
 use Rattle.std.proofs.Common.{Err, Ok, ℕ, List, ap, refl, subst}
 use Rattle.seg_tool.specs.Runs.{WritesText, has_text, no_text, sink_state}
-use Rattle.seg_tool.proofs.command.run_merge.Goals as goal
+use Rattle.seg_tool.proofs.merge_job.run_merge.Goals as goal
 
 pub returns-in-Ok : goal.returns-in-Ok
 returns-in-Ok g c source =

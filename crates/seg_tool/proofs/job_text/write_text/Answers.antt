@@ -1,6 +1,6 @@
 use Rattle.std.proofs.Common.{refl}
 use Rattle.seg_tool.specs.Runs.{failed, written}
-use Rattle.seg_tool.proofs.command.write_text.Goals as goal
+use Rattle.seg_tool.proofs.job_text.write_text.Goals as goal
 
 pub returns-in-Ok : goal.returns-in-Ok
 returns-in-Ok g c = written refl c.in-Ok.ensures.ok c.in-Ok.ensures.cause.later

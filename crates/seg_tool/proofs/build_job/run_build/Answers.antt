@@ -1,6 +1,6 @@
 use Rattle.std.proofs.Common.{Err, ℕ, List, ap, refl, subst}
 use Rattle.seg_tool.specs.Runs.{WritesText, has_text, is_read, no_text, not_read, sink_state, starved, too_long}
-use Rattle.seg_tool.proofs.command.run_build.Goals as goal
+use Rattle.seg_tool.proofs.build_job.run_build.Goals as goal
 
 pub returns-in-Err-Fault : goal.returns-in-Err-Fault
 returns-in-Err-Fault g c =
