@@ -26,12 +26,12 @@ fn add_leaf(lines: &mut Lines, what: &str, leaf: ReferenceValueLeaf<'_>) {
     }
 }
 
-/// The leaf that a value is read as; null where it is none.
-fn leaf_of<'a, V: Value<'a>>(value: V) -> ReferenceValueLeaf<'a> {
+/// Adds the leaf that a value is read as; null where it is none.
+fn add_value<'a, V: Value<'a>>(lines: &mut Lines, what: &str, value: V) {
     match value.as_value() {
-        ReferenceValue::Leaf(leaf) => leaf,
-        ReferenceValue::Array(_items) => ReferenceValueLeaf::Null,
-        ReferenceValue::Object(_members) => ReferenceValueLeaf::Null,
+        ReferenceValue::Leaf(leaf) => add_leaf(lines, what, leaf),
+        ReferenceValue::Array(_items) => lines.add_text(what, "Null"),
+        ReferenceValue::Object(_members) => lines.add_text(what, "Null"),
     }
 }
 
@@ -44,10 +44,10 @@ fn without_tokens(alloc: Global, text: &str) -> Result<PreTokenizedString, Alloc
 }
 
 fn add_texts(lines: &mut Lines) {
-    add_leaf(lines, "as_value of the &str a", leaf_of("a"));
-    add_leaf(lines, "as_value of the &&str a", leaf_of(&"a"));
+    add_value(lines, "as_value of the &str a", "a");
+    add_value(lines, "as_value of the &&str a", &"a");
     match String::from_str(lines.alloc(), "a") {
-        Ok(text) => add_leaf(lines, "as_value of the &String a", leaf_of(&text)),
+        Ok(text) => add_value(lines, "as_value of the &String a", &text),
         Err(_) => lines.miss(),
     }
 }
@@ -55,30 +55,26 @@ fn add_texts(lines: &mut Lines) {
 fn add_marked_texts(lines: &mut Lines) {
     let alloc = lines.alloc();
     match without_tokens(alloc, "a") {
-        Ok(text) => add_leaf(
-            lines,
-            "as_value of the &PreTokenizedString a",
-            leaf_of(&text),
-        ),
+        Ok(text) => add_value(lines, "as_value of the &PreTokenizedString a", &text),
         Err(_) => lines.miss(),
     }
     match Facet::from_text(alloc, "/a/b") {
-        Ok(facet) => add_leaf(lines, "as_value of the &Facet /a/b", leaf_of(&facet)),
+        Ok(facet) => add_value(lines, "as_value of the &Facet /a/b", &facet),
         Err(_) => lines.miss(),
     }
 }
 
 fn add_numbers(lines: &mut Lines) {
-    add_leaf(lines, "as_value of the &u64 7", leaf_of(&7u64));
-    add_leaf(lines, "as_value of the &i64 -7", leaf_of(&-7i64));
-    add_leaf(lines, "as_value of the &bool true", leaf_of(&true));
+    add_value(lines, "as_value of the &u64 7", &7u64);
+    add_value(lines, "as_value of the &i64 -7", &-7i64);
+    add_value(lines, "as_value of the &bool true", &true);
 }
 
 fn add_moments(lines: &mut Lines) {
     let moment = DateTime::from_timestamp_nanos(1);
-    add_leaf(lines, "as_value of the &DateTime of 1 ns", leaf_of(&moment));
+    add_value(lines, "as_value of the &DateTime of 1 ns", &moment);
     let address = Ipv6Addr::new(0, 0, 0, 0, 0, 0, 0, 1);
-    add_leaf(lines, "as_value of the &Ipv6Addr ::1", leaf_of(&address));
+    add_value(lines, "as_value of the &Ipv6Addr ::1", &address);
 }
 
 fn list_of(alloc: Global, bytes: &[u8]) -> Result<Vec<u8>, AllocError> {
@@ -89,10 +85,10 @@ fn list_of(alloc: Global, bytes: &[u8]) -> Result<Vec<u8>, AllocError> {
 
 fn add_byte_strings(lines: &mut Lines) {
     let bytes: &[u8] = b"a";
-    add_leaf(lines, "as_value of the &[u8] a", leaf_of(bytes));
-    add_leaf(lines, "as_value of the &&[u8] a", leaf_of(&bytes));
+    add_value(lines, "as_value of the &[u8] a", bytes);
+    add_value(lines, "as_value of the &&[u8] a", &bytes);
     match list_of(lines.alloc(), bytes) {
-        Ok(list) => add_leaf(lines, "as_value of the &Vec<u8> a", leaf_of(&list)),
+        Ok(list) => add_value(lines, "as_value of the &Vec<u8> a", &list),
         Err(_) => lines.miss(),
     }
 }

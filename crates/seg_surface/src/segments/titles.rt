@@ -35,17 +35,13 @@ fn mapped(alloc: Global) -> Result<BTreeMap<Field, OwnedValue>, AllocError> {
     }
 }
 
-fn add_both(alloc: Global, writer: &mut SegmentWriter<'_, Words>) -> TResult<()> {
-    writer.add_document(addition(alloc, 0)?)?;
-    writer.add_ref(1, &mapped(alloc)?)
-}
-
 /// A directory with the files of both documents.
 fn written(alloc: Global) -> TResult<MemoryDirectory> {
-    let mut directory = memory(alloc)?;
     let segment = titles(alloc)?;
     let mut writer = SegmentWriter::for_segment(alloc, 15_000, segment, &settings(16384), &Words)?;
-    add_both(alloc, &mut writer)?;
+    writer.add_document(addition(alloc, 0)?)?;
+    writer.add_ref(1, &mapped(alloc)?)?;
+    let mut directory = memory(alloc)?;
     writer.finalize(&mut directory)?;
     Ok(directory)
 }
