@@ -8,7 +8,7 @@ use Rattle.seg_terms.specs.AddedOccurrences.{with_occurrences}
 use Rattle.seg_check.specs.LeafContents.{LeafContent, leaf_with, texts_after, with_texts}
 use Rattle.seg_build.specs.GatheredFieldTerms.{Gathered, json_gathered, with_leaf, with_leaves, AddsLeaf}
 use Rattle.seg_build.specs.LeafPositions.{PathLeaves, leaf_occur, leaf_count, LeafFits, after_leaf, leaves_occur, leaves_count, LeavesFit, kept_start, kept_starts}
-use Rattle.seg_build.specs.MemoryUsage.{saturated}
+use Rattle.seg_model.specs.SaturatedNumbers.{saturated}
 use Rattle.seg_build.specs.PathStarts.{path_start}
 use Rattle.seg_build.specs.declared.json_terms.JsonTerms.{JsonTerms}
 use Rattle.seg_build.proofs.GrownTerms.{with_occurrences-append}

@@ -13,7 +13,8 @@ use Rattle.seg_store.specs.BlockLaw.{all_documents}
 use Rattle.seg_store.specs.WriterBlocks.{Taken, byte_count, block_bytes, last_block, taken_bytes}
 use Rattle.seg_store.proofs.Exports.{last_size}
 use Rattle.seg_build.specs.WriterContents.{Kept}
-use Rattle.seg_build.specs.MemoryUsage.{total, saturated, occurrence_count, length_fields, memory_usage}
+use Rattle.seg_model.specs.SaturatedNumbers.{saturated}
+use Rattle.seg_build.specs.MemoryUsage.{total, occurrence_count, length_fields, memory_usage}
 use Rattle.seg_build.specs.SegmentWriters.{Stores, IsKeptOf}
 
 pub total-last : {A : Type 0} (count : A → ℕ) (xs : List A) (x : A) → total count (xs ++ x ∷ []) ≡ total count xs + count x

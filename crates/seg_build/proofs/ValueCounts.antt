@@ -7,12 +7,14 @@ use Rattle.std.proofs.lemmas.Bool.Decides.{eqb_tells, nat_tests}
 use Rattle.std.proofs.lemmas.Option.{slice_get_within}
 use Rattle.seg_values.specs.declared.schema.FieldEntry.{FieldEntry}
 use Rattle.seg_values.specs.Tree.{Tree, Document}
+use Rattle.seg_model.proofs.Exports.{sum_on}
 use Rattle.seg_model.specs.Fields.{Schema, Analyzer, is_indexed, is_field}
 use Rattle.seg_model.specs.Occurrences.{occurrences}
 use Rattle.seg_check.specs.IndexedValues.{content_of, content_at, value_in, value_of}
 use Rattle.seg_check.specs.declared.indexed_value.IndexedValue.{IndexedValue}
 use Rattle.seg_build.specs.AddedValues.{count_in, first_starts}
-use Rattle.seg_build.specs.MemoryUsage.{total, saturated, occurrence_count, value_count}
+use Rattle.seg_model.specs.SaturatedNumbers.{saturated}
+use Rattle.seg_build.specs.MemoryUsage.{total, occurrence_count, value_count}
 use Rattle.seg_build.specs.FieldsByValue.{indexed_part}
 use Rattle.seg_build.proofs.FieldContents.{length_from}
 use Rattle.seg_build.proofs.IndexedParts.{part-kept, part-passed, indexed_pair, values_kept, values_dropped}
@@ -22,15 +24,13 @@ use Rattle.seg_build.proofs.AllDocuments.{occurrences-indexed, occurrences-unind
 
 -- ---- the loop over the values
 
-sum_turn : (count more rest now : ℕ) → now ≡ min (count + saturated more) (2 ^ 64 - 1) → saturated (now + rest) ≡ saturated (count + (more + rest))
-sum_turn count more rest now is = omega (arith, is)
-
 -- one turn
 pub counted_turn : (document : Document) (values : List IndexedValue) (i : ℕ) (v : IndexedValue) (count more now : ℕ) → i < length values → v ≡ get_or values i v → more ≡ saturated (count_in (value_in document v).1) → now ≡ min (count + more) (2 ^ 64 - 1)
     → saturated (now + value_count (map (value_in document) (drop (i + 1) values))) ≡ saturated (count + value_count (map (value_in document) (drop i values)))
 counted_turn document values i v count more now lt is more_is sum =
     let rest = value_count (map (value_in document) (drop (i + 1) values)) in
-    sum_turn count (count_in (value_in document v).1) rest now (sum ∙ ap (λ n. min (count + n) (2 ^ 64 - 1)) more_is)
+    ap (λ n. saturated (n + rest)) (sum ∙ ap (λ n. saturated (count + n)) more_is)
+    ∙ sum_on count (count_in (value_in document v).1) rest
     ∙ ap (λ vs. saturated (count + value_count (map (value_in document) vs))) (sym (drop-item values i v lt is))
 
 -- after the last value

@@ -6,7 +6,7 @@ use Rattle.seg_model.specs.Fields.{Schema, Analyzer, fields, has_lengths}
 use Rattle.seg_model.specs.Occurrences.{occurrences}
 use Rattle.seg_values.specs.StoredBytes.{stored_form}
 use Rattle.seg_check.specs.IndexedValues.{IndexedContent}
-pub use Rattle.seg_fastfield.specs.MemoryUsage.{total, saturated}
+pub use Rattle.seg_fastfield.specs.MemoryUsage.{total}
 use Rattle.seg_store.specs.WriterBlocks.{byte_count}
 use Rattle.seg_build.specs.AddedValues.{count_in}
 

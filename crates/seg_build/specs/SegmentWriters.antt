@@ -25,7 +25,8 @@ use Rattle.seg_doc_bytes.specs.StoredDocumentLaw.{AreShallow}
 use Rattle.seg_store.specs.WriterBlocks.{Taken, with_document, all_blocks, taken_count}
 use Rattle.seg_build.specs.WriterContents.{Kept}
 use Rattle.seg_build.specs.DocumentLengths.{HaveLengths, with_lengths}
-use Rattle.seg_build.specs.MemoryUsage.{total, saturated, occurrence_count, value_count}
+use Rattle.seg_model.specs.SaturatedNumbers.{saturated}
+use Rattle.seg_build.specs.MemoryUsage.{total, occurrence_count, value_count}
 use Rattle.seg_build.specs.FieldsByValue.{AllFit, fresh, with_documents, with_values}
 use Rattle.seg_build.specs.StoredBlocks.{stored_with}
 use Rattle.seg_build.specs.declared.writer_parts.WriterParts.{WriterParts}

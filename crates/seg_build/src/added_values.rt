@@ -4,7 +4,8 @@ ghost use Rattle.std.specs.List.{slice_get, AllByRecursion};
 ghost use Rattle.seg_check.specs.IndexedValues.{HasPlainKeys, IsPlainIn, content_by, value_in};
 ghost use Rattle.seg_values.specs.ValueTrees.{tree_of};
 ghost use Rattle.seg_build.specs.AddedValues.{Fits, added, count_in};
-ghost use Rattle.seg_build.specs.MemoryUsage.{saturated, value_count};
+ghost use Rattle.seg_model.specs.SaturatedNumbers.{saturated};
+ghost use Rattle.seg_build.specs.MemoryUsage.{value_count};
 ghost use Rattle.seg_build.specs.FieldsByValue.{AllFit, with_values};
 
 use crate::field::FieldPostings;

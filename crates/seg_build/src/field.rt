@@ -10,7 +10,7 @@ ghost use Rattle.seg_model.specs.Occurrences.{value_terms};
 ghost use Rattle.seg_values.specs.ValueTrees.{tree_of};
 ghost use Rattle.seg_build.specs.AddedValues.{Fits, start_of, length_of, count_in, added};
 ghost use Rattle.seg_build.specs.GatheredFieldTerms.{gathered};
-ghost use Rattle.seg_build.specs.MemoryUsage.{saturated};
+ghost use Rattle.seg_model.specs.SaturatedNumbers.{saturated};
 ghost use Rattle.seg_build.specs.FieldsByValue.{fresh};
 
 use crate::gathered_terms::GatheredTerms;

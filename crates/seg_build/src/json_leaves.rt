@@ -11,7 +11,7 @@ ghost use Rattle.seg_paths.specs.Paths.{number_of};
 ghost use Rattle.seg_values.specs.ValueTrees.{tree_of};
 ghost use Rattle.seg_build.specs.GatheredFieldTerms.{AddsLeaf, json_gathered, with_leaves};
 ghost use Rattle.seg_build.specs.LeafPositions.{LeafFits, LeavesFit, leaf_count, leaves_count};
-ghost use Rattle.seg_build.specs.MemoryUsage.{saturated};
+ghost use Rattle.seg_model.specs.SaturatedNumbers.{saturated};
 ghost use Rattle.seg_build.specs.PathStarts.{path_start};
 
 use crate::coded_leaf::coded_leaf;

@@ -17,7 +17,8 @@ use Rattle.seg_model.specs.DocumentCheck.{is_u32, count_of, texts_fit, value_tex
 use Rattle.seg_model.specs.Leaves.{PlacedLeaf, leaves, leaves_of, joined_path}
 use Rattle.seg_model.specs.Occurrences.{leaf_text, value_tokens, texts_at}
 use Rattle.seg_check.specs.Paths.{at_path, on_path, texts_of, path_texts, fits_on, paths_fit, PathsStand}
-use Rattle.seg_check.specs.TextSizes.{saturated, size_of, all_rise, measured}
+use Rattle.seg_model.specs.SaturatedNumbers.{saturated}
+use Rattle.seg_check.specs.TextSizes.{size_of, all_rise, measured}
 use Rattle.seg_check.specs.FieldContents.{found_in, Stands}
 use Rattle.seg_check.specs.TotalsOfFields.{totals_of, with_more, totals_fit}
 use Rattle.seg_check.specs.declared.field_totals.FieldTotals.{FieldTotals}

@@ -16,7 +16,8 @@ use Rattle.seg_model.specs.DocumentCheck.{is_u32, texts_fit, count_of}
 use Rattle.seg_model.specs.Occurrences.{leaf_text, start_after_all}
 use Rattle.seg_paths.specs.Paths.{Extends, number_of}
 use Rattle.seg_paths.proofs.Exports.{number-kept, number-past, number-read}
-use Rattle.seg_check.specs.TextSizes.{size_of, saturated}
+use Rattle.seg_model.specs.SaturatedNumbers.{saturated}
+use Rattle.seg_check.specs.TextSizes.{size_of}
 use Rattle.seg_check.specs.TotalsOfFields.{no_totals, totals_of, with_more, totals_fit}
 use Rattle.seg_check.specs.Paths.{on_path, path_texts, totals_on, fits_on, paths_fit, total_in, total_at, PathsStand}
 use Rattle.seg_check.specs.declared.size.TextSize.{TextSize}

@@ -1,16 +1,17 @@
 -- The number of bytes of the parts of what is stored, one after another.
-use Rattle.std.proofs.Common.{◌≡◌, ℕ, ◌+◌, ◌-◌, ◌^◌, min, Bool, true, false, cond, List, ◌∷◌, ◌++◌, map, length, Some, drop, sym, ap, ◌∙◌, arith}
+use Rattle.std.proofs.Common.{◌≡◌, ℕ, ◌+◌, ◌-◌, Bool, true, false, cond, List, ◌∷◌, ◌++◌, map, length, Some, drop, sym, ap, ◌∙◌, arith}
 use Rattle.std.specs.Prelude.{filter}
 use Rattle.std.specs.List.{slice_get, flat_map}
 use Rattle.std.proofs.lemmas.List.{length-append}
 use Rattle.seg_common.specs.Varint.{varint}
 use Rattle.seg_common.proofs.Lists.{drop-slice_get}
 use Rattle.seg_values.specs.Tree.{Tree, array, object, trees_from, members_from, Document}
+use Rattle.seg_model.proofs.Exports.{sum_on}
 use Rattle.seg_model.specs.Fields.{Schema, is_field}
 use Rattle.seg_model.specs.DocumentTerms.{stored_value, stored_document}
 use Rattle.seg_values.specs.StoredBytes.{sized, tree_count, member_count, tree_form, tree_forms, member_forms, pair_form}
 use Rattle.seg_values.proofs.Exports.{count_members, count_trees}
-use Rattle.seg_check.specs.TextSizes.{saturated}
+use Rattle.seg_model.specs.SaturatedNumbers.{saturated}
 
 begins : (rest : List ℕ) (tag n m : ℕ) → n ≡ m → 1 + length (varint m) + length rest ≡ length (tag ∷ (varint n ++ rest))
 begins rest tag n m same = let e : length (varint n ++ rest) ≡ length (varint n) + length rest = length-append (varint n) rest in let k : length (varint m) ≡ length (varint n) = ap (λ x. length (varint x)) (sym same) in omega (arith, e, k)
@@ -20,13 +21,6 @@ array_begins ts n size many is = ap (λ k. 1 + k + length (tree_forms (trees_fro
 
 pub object_begins : (ms : List (List ℕ × Tree)) (n size : ℕ) → n ≡ length ms → size ≡ length (varint n) → 1 + size + length (member_forms (members_from ms)) ≡ length (tree_form (object (members_from ms)))
 object_begins ms n size many is = ap (λ k. 1 + k + length (member_forms (members_from ms))) is ∙ begins (member_forms (members_from ms)) 11 (member_count (members_from ms)) n (count_members ms ∙ sym many)
-
--- a sum that stays at its end tells of the whole
-capped : (m a b c : ℕ) → min (min (a + min b m) m + c) m ≡ min (a + (b + c)) m
-capped m a b c = omega arith
-
-pub sum_on : (a b c : ℕ) → saturated (saturated (a + saturated b) + c) ≡ saturated (a + (b + c))
-sum_on a b c = capped (2 ^ 64 - 1) a b c
 
 pub sized_bytes : (bytes : List ℕ) → length (varint (length bytes)) + length bytes ≡ length (sized bytes)
 sized_bytes bytes = sym (length-append (varint (length bytes)) bytes)

@@ -6,7 +6,8 @@ use Rattle.std.proofs.lemmas.List.Folds.{list_all-append}
 use Rattle.seg_tokens.specs.declared.token.Token.{Token}
 use Rattle.seg_model.specs.DocumentCheck.{is_u32, is_rising, count_of}
 use Rattle.seg_model.specs.Occurrences.{counted, reach, start_after, start_after_all}
-use Rattle.seg_check.specs.TextSizes.{saturated, size_of, plus, all_rise, measured, both}
+use Rattle.seg_model.specs.SaturatedNumbers.{saturated}
+use Rattle.seg_check.specs.TextSizes.{size_of, plus, all_rise, measured, both}
 use Rattle.seg_check.specs.declared.size.TextSize.{TextSize}
 
 reach-from : (start : ℕ) (ts : List Token) → reach start ts ≡ start + reach 0 ts

@@ -1,14 +1,11 @@
 -- How much texts take of what is limited, in numbers that stay at the end of a u64.
-use Rattle.std.specs.Prelude.{ℕ, ◌+◌, ◌-◌, ◌^◌, min, List, Bool, Option, Some, None, if◌then◌else◌}
+use Rattle.std.specs.Prelude.{◌+◌, List, Bool, Option, Some, None, if◌then◌else◌}
 use Rattle.std.specs.List.{list_all}
 use Rattle.seg_tokens.specs.declared.token.Token.{Token}
 use Rattle.seg_model.specs.DocumentCheck.{is_rising, count_of}
 use Rattle.seg_model.specs.Occurrences.{counted, start_after_all}
+use Rattle.seg_model.specs.SaturatedNumbers.{saturated}
 use Rattle.seg_check.specs.declared.size.TextSize.{TextSize}
-
--- a number as it is kept
-abbrev pub saturated : ℕ → ℕ
-saturated n = min n (2 ^ 64 - 1)
 
 -- the size of some texts: how far their running start goes, and how many tokens they have
 abbrev pub size_of : List (List Token) → TextSize

@@ -2,7 +2,8 @@
 use Rattle.std.specs.Prelude.{ℕ, ◌+◌, List, [], Bool, ◌&&◌}
 use Rattle.seg_tokens.specs.declared.token.Token.{Token}
 use Rattle.seg_model.specs.DocumentCheck.{is_u32}
-use Rattle.seg_check.specs.TextSizes.{saturated, size_of, plus}
+use Rattle.seg_model.specs.SaturatedNumbers.{saturated}
+use Rattle.seg_check.specs.TextSizes.{size_of, plus}
 use Rattle.seg_check.specs.declared.size.TextSize.{TextSize}
 use Rattle.seg_check.specs.declared.totals.Totals.{Totals}
 

@@ -2,7 +2,8 @@
 ghost use Rattle.std.specs.Prelude.{◌≡◌, ◌∷◌, [], length};
 ghost use Rattle.seg_model.specs.DocumentCheck.{is_rising};
 ghost use Rattle.seg_model.specs.Occurrences.{counted, reach, start_after};
-ghost use Rattle.seg_check.specs.TextSizes.{plus, measured, saturated, size_of};
+ghost use Rattle.seg_model.specs.SaturatedNumbers.{saturated};
+ghost use Rattle.seg_check.specs.TextSizes.{plus, measured, size_of};
 
 use seg_tokens::{MAX_TOKEN_LEN, Token};
 

@@ -7,7 +7,7 @@ ghost use Rattle.seg_values.specs.ValueTrees.{tree_of};
 ghost use Rattle.seg_model.specs.Fields as fields;
 ghost use Rattle.seg_model.specs.DocumentTerms.{stored_value};
 ghost use Rattle.seg_values.specs.StoredBytes as stored;
-ghost use Rattle.seg_check.specs.TextSizes.{saturated};
+ghost use Rattle.seg_model.specs.SaturatedNumbers.{saturated};
 ghost use Rattle.seg_check.specs.ValueLeaves.{leaf_in};
 
 use seg_common::varint_len;

@@ -1,26 +1,25 @@
 -- The merged columns of the model, from what is at each key.
-use Rattle.std.proofs.Common.{◌≡◌, ℕ, zero, suc, Bool, true, false, ◌||◌, List, [], ◌∷◌, map, get_or, Option, Some, None, refl, sym, ap, ◌∙◌, arith}
-use Rattle.std.specs.Prelude.{◌&&◌, String, if◌then◌else◌, not}
+use Rattle.std.proofs.Common.{◌≡◌, ℕ, zero, suc, Bool, true, false, ◌||◌, List, [], ◌∷◌, map, get_or, Option, Some, None, refl, sym, ap, ◌∙◌}
+use Rattle.std.specs.Prelude.{String, if◌then◌else◌}
 use Rattle.std.specs.declared.alloc.Global.{Global}
 use Rattle.std.specs.FinMap.{get}
-use Rattle.std.specs.List.{flat_map, list_all, list_any}
+use Rattle.std.specs.List.{flat_map, list_any}
 use Rattle.std.specs.Ordering.{eq_by_cmp}
 use Rattle.std.proofs.lemmas.Bool.{or_left, or_parts, or_right, true≢false}
 use Rattle.std.proofs.lemmas.List.Folds.{list_any-append}
 use Rattle.seg_common.proofs.TabulatedMaps.{same_key, table_from_gets}
 use Rattle.seg_common.specs.TabulatedMaps.{is_among, tabulated}
 use Rattle.seg_common.specs.declared.column_type.ColumnType.{ColumnType}
-use Rattle.seg_common.specs.declared.column_type.ColumnType.TheVariants as types
 use Rattle.seg_common.proofs.Lists.{filter-none, list_any-none}
-use Rattle.seg_model.proofs.Exports.{column_cmp_total, columns_apart}
-use Rattle.seg_model.specs.Columns.{ColumnKey, ColumnValue, Columns, column_at, column_cmp, free_number_type, if_there, is_declared, is_filled, is_mixed, is_not_negative, is_number, is_type, number_type, without_values}
+use Rattle.seg_model.proofs.Exports.{column_cmp_total, columns_apart, no_column, not_mixed}
+use Rattle.seg_model.specs.Columns.{ColumnKey, ColumnValue, Columns, column_at, column_cmp, is_filled, is_mixed}
 use Rattle.seg_model.specs.Join.{joined_keys}
 use Rattle.seg_column_file.specs.ColumnFiles.{ColumnFile, NamedColumn}
 use Rattle.seg_column_format.specs.ModelColumns.{column_key, column_rows}
 use Rattle.seg_column_merge.specs.MergedColumns.{columns_of_file, merged_columns, merged_keys, required_key, rows_at, values_in_row}
 use Rattle.seg_column_file.specs.RowOrders.{Place}
 use Rattle.seg_column_writer.proofs.Exports.{among_passes}
-use Rattle.seg_column_merge.proofs.ModelColumns.{all_fit, empty_rows, found, mixed}
+use Rattle.seg_column_merge.proofs.ModelColumns.{found, mixed}
 
 -- ---- lists
 
@@ -49,46 +48,6 @@ module _ (required : List (String Global × ColumnType)) (files : List ColumnFil
 
   abbrev pub keys : List ColumnKey
   keys = merged_keys declared_keys files
-
-  -- ---- a key without a value
-
-  module _ (q : ColumnKey) where
-    abbrev type_here : Option ColumnType
-    type_here = number_type declared_keys q.path (rows_at files places q)
-
-    pub empty_found : is_declared declared_keys q ≡ false → list_any is_filled (rows_at files places q) ≡ false
-        → found required files places q ≡ None
-    empty_found undeclared empty =
-        ap (λ (d : Bool). if_there d (if not (is_number q.type) || is_type q.type type_here
-        then rows_at files places q else without_values (rows_at files places q))) undeclared
-        ∙ by (not (is_number q.type) || is_type q.type type_here)
-      where
-        by : (b : Bool)
-            → if_there false (if b then rows_at files places q else without_values (rows_at files places q)) ≡ None
-        by true = ap (λ (x : Bool). if x then Some (rows_at files places q) else None) empty
-        by false = ap (λ (x : Bool). if x then Some (without_values (rows_at files places q)) else None)
-            (empty_rows (rows_at files places q))
-
-    typed : list_any is_filled (rows_at files places q) ≡ false → (a b : Bool)
-        → not (is_type types.I64 (if a then Some types.I64
-        else (if b then Some types.U64 else free_number_type (rows_at files places q)))
-        || is_type types.U64 (if a then Some types.I64
-        else (if b then Some types.U64 else free_number_type (rows_at files places q)))) ≡ false
-    typed empty true b = refl
-    typed empty false true = refl
-    typed empty false false =
-        ap (λ (t : Option ColumnType). not (is_type types.I64 t || is_type types.U64 t))
-        (ap (λ (b : Bool). if b then Some types.I64
-        else (if list_all (list_all is_not_negative) (rows_at files places q) then Some types.U64 else None))
-        (all_fit (rows_at files places q) empty))
-
-    pub empty_unmixed : list_any is_filled (rows_at files places q) ≡ false → mixed required files places q ≡ false
-    empty_unmixed empty = by (is_number q.type)
-      where
-        by : (n : Bool) → (n && not (is_type types.I64 type_here || is_type types.U64 type_here)) ≡ false
-        by true = typed empty (is_declared declared_keys (record { path = q.path; type = types.I64 }))
-            (is_declared declared_keys (record { path = q.path; type = types.U64 }))
-        by false = refl
 
   -- ---- a key that is none of them
 
@@ -132,10 +91,10 @@ module _ (required : List (String Global × ColumnType)) (files : List ColumnFil
           (λ p. ap is_filled (no_value p)) places
 
       pub not_found : found required files places q ≡ None
-      not_found = empty_found q split.0 not_filled
+      not_found = no_column declared_keys q (rows_at files places q) split.0 not_filled
 
       pub outside_unmixed : mixed required files places q ≡ false
-      outside_unmixed = empty_unmixed q not_filled
+      outside_unmixed = not_mixed declared_keys q (rows_at files places q) not_filled
 
   -- ---- the columns
 

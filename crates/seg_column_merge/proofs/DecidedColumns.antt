@@ -6,13 +6,14 @@ use Rattle.std.specs.List.{AllByRecursion, list_all, list_any}
 use Rattle.std.proofs.lemmas.Option.{none-some, same_Some}
 use Rattle.seg_common.specs.declared.column_type.ColumnType.{ColumnType}
 use Rattle.seg_common.specs.declared.column_type.ColumnType.TheVariants.{I64, U64}
+use Rattle.seg_model.proofs.Exports.{all_fit}
 use Rattle.seg_model.specs.Columns.{ColumnKey, ColumnValue, fits_i64, free_number_type, is_filled, is_not_negative, is_number, is_type}
 use Rattle.seg_column_file.specs.ColumnFiles.{ColumnFile}
 use Rattle.seg_column_merge.specs.Cells.{is_absent, rows_with}
 use Rattle.seg_column_merge.specs.Decisions.{as_there, merged_type}
 use Rattle.seg_column_file.specs.RowOrders.{Place}
 use Rattle.seg_column_merge_parts.specs.Tables.{Row, all_rows, kind_of}
-use Rattle.seg_column_merge.proofs.ModelColumns.{all_fit, at_type, found, free_of, group_values, mixed, mixed_is, mixed_required, not_mixed, other_of, required_number, required_other, type_free}
+use Rattle.seg_column_merge.proofs.ModelColumns.{at_type, found, free_of, group_values, mixed, mixed_is, mixed_required, not_mixed, other_of, required_number, required_other, type_free}
 use Rattle.seg_column_merge.proofs.MergedTypes.{same_kind_number}
 
 -- numbers have one of two types, or none

@@ -6,7 +6,7 @@ use Rattle.std.proofs.lemmas.Bool.{false≢true}
 use Rattle.std.proofs.lemmas.List.{take_all}
 use Rattle.std.proofs.lemmas.List.Sorted.{list_any-IsPermutation}
 use Rattle.seg_common.proofs.Lists.{list_any-map, filter-none, map-map}
-use Rattle.seg_model.proofs.Exports.{column_cmp_total}
+use Rattle.seg_model.proofs.Exports.{column_cmp_total, no_column, not_mixed}
 use Rattle.seg_model.specs.Columns.{ColumnKey, ColumnValue, Columns, is_declared, is_filled}
 use Rattle.seg_column_file.specs.ColumnFiles.{ColumnFile, IsColumnFile, NamedColumn, column_file_of}
 use Rattle.seg_columns.specs.declared.error.ColumnError.{ColumnError}
@@ -25,7 +25,7 @@ use Rattle.seg_column_merge.specs.declared.merge.Merge.{Merge}
 use Rattle.seg_column_merge.specs.declared.merged_file.MergedFile.{MergedFile}
 use Rattle.seg_column_merge_parts.specs.declared.tables.TableRow.{TableRow}
 use Rattle.seg_column_merge.proofs.MergedCells.{rows_are}
-use Rattle.seg_column_merge.proofs.CompletedColumns.{columns_are, columns_undefined, empty_found, empty_unmixed}
+use Rattle.seg_column_merge.proofs.CompletedColumns.{columns_are, columns_undefined}
 use Rattle.seg_column_merge.proofs.PutGroups.{key_mixed, their_key}
 use Rattle.seg_column_merge.proofs.RequiredColumns.{declared_is}
 
@@ -78,10 +78,10 @@ module _ (merge : Merge) (is_merge : IsMerge merge) (table : List TableRow)
         ∙ empty_cells (places_of merge)
 
     none_there : found_at merge q ≡ None
-    none_there = empty_found merge.required.now merge.columnars.now (places_of merge) q undeclared empty
+    none_there = no_column (map required_key merge.required.now) q (rows_at merge.columnars.now (places_of merge) q) undeclared empty
 
     none_mixed : mixed_at merge q ≡ false
-    none_mixed = empty_unmixed merge.required.now merge.columnars.now (places_of merge) q empty
+    none_mixed = not_mixed (map required_key merge.required.now) q (rows_at merge.columnars.now (places_of merge) q) empty
 
   module _ (start : ℕ) (past : length table ≤ start) (file : MergedFile) (so_far : SoFar merge table start file) where
     whole : (q : ColumnKey) → covers (take start table) q ≡ covers table q

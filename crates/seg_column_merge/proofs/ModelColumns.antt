@@ -2,12 +2,13 @@
 use Rattle.std.proofs.Common.{◌≡◌, ℕ, Bool, true, false, ◌||◌, List, [], ◌∷◌, map, Option, Some, None, refl, sym, ap, ◌∙◌, arith}
 use Rattle.std.specs.Prelude.{◌&&◌, String, if◌then◌else◌, nat_eq, not}
 use Rattle.std.specs.declared.alloc.Global.{Global}
-use Rattle.std.specs.List.{AllByRecursion, list_all, list_any}
+use Rattle.std.specs.List.{AllByRecursion, list_any}
 use Rattle.std.proofs.lemmas.Bool.{false≢true, or_from, true≢false}
 use Rattle.std.proofs.lemmas.Bool.Decides.{nat_tests}
 use Rattle.seg_common.specs.declared.column_type.ColumnType.{ColumnType}
 use Rattle.seg_common.specs.declared.column_type.ColumnType.TheVariants.{I64, U64, Bytes, Str, Bool as Boolean, IpAddr, DateTime}
-use Rattle.seg_model.specs.Columns.{ColumnKey, ColumnValue, column_at, fits_i64, free_number_type, if_there, is_declared, is_filled, is_mixed, is_number, is_type, number_type, type_place, without_values}
+use Rattle.seg_model.specs.Columns.{ColumnKey, ColumnValue, column_at, free_number_type, if_there, is_declared, is_filled, is_mixed, is_number, is_type, number_type, type_place, without_values}
+use Rattle.seg_model.proofs.Exports.{is_filled-without_values}
 use Rattle.seg_column_file.specs.ColumnFiles.{ColumnFile}
 use Rattle.seg_column_merge.specs.Cells.{cells, is_absent, is_required, rows_with}
 use Rattle.seg_column_merge.specs.MergedColumns.{required_key, rows_at}
@@ -20,18 +21,6 @@ use Rattle.seg_column_merge.proofs.RequiredColumns.{declared_is, first_tells}
 abbrev pub at_type : Option ColumnType → ColumnType → List (List ColumnValue) → Option (List (List ColumnValue))
 at_type None u values = None
 at_type (Some t) u values = if nat_eq (type_place u) (type_place t) then Some values else None
-
--- ---- rows without values
-
-pub empty_rows : (values : List (List ColumnValue)) → list_any is_filled (without_values values) ≡ false
-empty_rows [] = refl
-empty_rows (v ∷ vs) = empty_rows vs
-
-pub all_fit : (values : List (List ColumnValue)) → list_any is_filled values ≡ false
-    → list_all (list_all fits_i64) values ≡ true
-all_fit [] none = refl
-all_fit ([] ∷ vs) none = all_fit vs none
-all_fit ((x ∷ xs) ∷ vs) none = absurd (true≢false none)
 
 -- ---- what is at a key of numbers, by what is declared
 
@@ -48,14 +37,14 @@ declared_number t u values declared is = ap (λ (d : Bool). at_number d (Some t)
   where
     by : (b : Bool) → if_there b (if b then values else without_values values) ≡ (if b then Some values else None)
     by true = refl
-    by false = ap (λ (f : Bool). if f then Some (without_values values) else None) (empty_rows values)
+    by false = ap (λ (f : Bool). if f then Some (without_values values) else None) (is_filled-without_values values)
 
 -- where none is
 free_number : (type : Option ColumnType) (u : ColumnType) (values : List (List ColumnValue)) (filled : Bool)
     → list_any is_filled values ≡ filled
     → at_number false type u values ≡ (if filled then at_type type u values else None)
 free_number None u values filled is =
-    ap (λ (f : Bool). if f then Some (without_values values) else None) (empty_rows values) ∙ by filled
+    ap (λ (f : Bool). if f then Some (without_values values) else None) (is_filled-without_values values) ∙ by filled
   where
     by : (b : Bool) → let none : Option (List (List ColumnValue)) = None in none ≡ (if b then none else none)
     by true = refl
@@ -67,8 +56,8 @@ free_number (Some t) u values filled is = by (nat_eq (type_place u) (type_place 
         ≡ (if f then (if b then Some values else None) else None)
     by true true is = ap (λ (x : Bool). if x then Some values else None) is
     by true false is = ap (λ (x : Bool). if x then Some values else None) is
-    by false true is = ap (λ (x : Bool). if x then Some (without_values values) else None) (empty_rows values)
-    by false false is = ap (λ (x : Bool). if x then Some (without_values values) else None) (empty_rows values)
+    by false true is = ap (λ (x : Bool). if x then Some (without_values values) else None) (is_filled-without_values values)
+    by false false is = ap (λ (x : Bool). if x then Some (without_values values) else None) (is_filled-without_values values)
 
 -- ---- the types of required rows
 

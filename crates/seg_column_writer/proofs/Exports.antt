@@ -1,5 +1,5 @@
 -- What crates above may cite: all other modules are inner.
-pub use Rattle.seg_column_writer.proofs.DocumentColumns.{AreEmpty, IsNothingElse, columns_of_documents, same_columns, same_length}
+pub use Rattle.seg_column_writer.proofs.DocumentColumns.{AreEmpty, columns_of_documents, same_length}
 pub use Rattle.seg_column_writer.proofs.DocumentRows.{is_at, key_named}
 pub use Rattle.seg_column_writer.proofs.EncodedColumns.{same_address}
 pub use Rattle.seg_column_writer.proofs.FileColumns.{data_more}

@@ -24,6 +24,7 @@ use Rattle.seg_column_writer.specs.ColumnRecords.{ColumnRecord, is_named}
 use Rattle.seg_column_writer.specs.RecordedColumns.{IsOfKind, column_type_of, declared_in, entries_in, entry_of, is_there, rows_at, rows_in, type_of_values, typed_entry}
 use Rattle.seg_column_writer.specs.declared.value_kind.ValueKind.{ValueKind}
 use Rattle.seg_column_writer.specs.declared.value_kind.ValueKind.TheVariants.{Number, Bytes, Str, Bool as Boolean, IpAddr, DateTime}
+use Rattle.seg_model.proofs.Exports.{is_filled-without_values}
 use Rattle.seg_column_format.proofs.Exports.{same_type, Rows}
 
 -- ---- keys
@@ -224,22 +225,18 @@ same_at here signed unsigned there first second types.Bool rows e f g = ap (λ b
 same_at here signed unsigned there first second types.IpAddr rows e f g = ap (λ b. if_there b rows) e
 same_at here signed unsigned there first second types.DateTime rows e f g = ap (λ b. if_there b rows) e
 
-pub not_filled : (rows : Rows) → list_any is_filled (without_values rows) ≡ false
-not_filled [] = refl
-not_filled (r ∷ rows) = not_filled rows
-
 nothing_at : (type : ColumnType) (rows : Rows) → list_any is_filled rows ≡ false
     → at_key false false false type rows ≡ None
 nothing_at types.I64 rows none = by (is_type types.I64 (free_number_type rows))
   where
     by : (b : Bool) → if_there false (cond b rows (without_values rows)) ≡ None
     by true = ap (λ b. cond b (Some rows) None) none
-    by false = ap (λ b. cond b (Some (without_values rows)) None) (not_filled rows)
+    by false = ap (λ b. cond b (Some (without_values rows)) None) (is_filled-without_values rows)
 nothing_at types.U64 rows none = by (is_type types.U64 (free_number_type rows))
   where
     by : (b : Bool) → if_there false (cond b rows (without_values rows)) ≡ None
     by true = ap (λ b. cond b (Some rows) None) none
-    by false = ap (λ b. cond b (Some (without_values rows)) None) (not_filled rows)
+    by false = ap (λ b. cond b (Some (without_values rows)) None) (is_filled-without_values rows)
 nothing_at types.Bytes rows none = ap (λ b. cond b (Some rows) None) none
 nothing_at types.Str rows none = ap (λ b. cond b (Some rows) None) none
 nothing_at types.Bool rows none = ap (λ b. cond b (Some rows) None) none
@@ -324,10 +321,10 @@ module _ (count : ℕ) (path : List ℕ) (type : ColumnType) (c : ColumnRecord) 
           none ∙ sym (ap (λ b. cond b (Some all) None) filled)
           ∙ sym (ap (λ b. if_there false (if b then all else without_values all)) e)
       by true false filled e =
-          either false t e ∙ sym (ap (λ b. cond b (Some (without_values all)) None) (not_filled all))
+          either false t e ∙ sym (ap (λ b. cond b (Some (without_values all)) None) (is_filled-without_values all))
           ∙ sym (ap (λ b. if_there false (if b then all else without_values all)) e)
       by false false filled e =
-          none ∙ sym (ap (λ b. cond b (Some (without_values all)) None) (not_filled all))
+          none ∙ sym (ap (λ b. cond b (Some (without_values all)) None) (is_filled-without_values all))
           ∙ sym (ap (λ b. if_there false (if b then all else without_values all)) e)
 
   -- declared as a type
@@ -344,7 +341,7 @@ module _ (count : ℕ) (path : List ℕ) (type : ColumnType) (c : ColumnRecord) 
       by true e = either true t e
           ∙ sym (ap (λ b. if_there (b || false) (if b then all else without_values all)) e)
       by false e = either false t e
-          ∙ sym (ap (λ b. cond b (Some (without_values all)) None) (not_filled all))
+          ∙ sym (ap (λ b. cond b (Some (without_values all)) None) (is_filled-without_values all))
           ∙ sym (ap (λ b. if_there (b || false) (if b then all else without_values all)) e)
 
   numbers : (declared : Option ColumnType) (has : Bool) (free : Option ColumnType) → IsOfKind Number declared

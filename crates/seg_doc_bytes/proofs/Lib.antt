@@ -4,12 +4,12 @@ mod GatheredValues
 mod MadeLeaves
 mod MadeTrees
 mod PassedLeaves
-mod PassedPairs
 mod PassedTrees
 mod ReadDocuments
 mod ReadSequences
 mod ReadTrees
 mod RoundTrips
 mod StoredPairs
+mod TakenFields
 mod TreeBytes
 mod WholeDocuments

@@ -1,15 +1,18 @@
 -- A document by its pairs.
-use Rattle.std.proofs.Common.{◌≡◌, ℕ, true, false, List, length, [], ◌∷◌, Some, None, refl, sym, ap, ◌∙◌}
+use Rattle.std.proofs.Common.{◌≡◌, ℕ, suc, true, false, List, length, [], ◌∷◌, Some, None, refl, sym, ap, arith, ◌∙◌}
 use Rattle.std.specs.Prelude.{nat_eq}
 use Rattle.std.proofs.lemmas.Bool.{false≢true}
+use Rattle.std.proofs.lemmas.Bool.Decides.{nat_tests}
 use Rattle.seg_values.specs.Tree.{Document}
 use Rattle.seg_doc_bytes.specs.FrontReaders.{counted_at}
 use Rattle.seg_doc_bytes.specs.StoredDocument.{pair_at, all_read, stored_document_of}
-use Rattle.seg_doc_bytes.proofs.PassedPairs.{not_none}
 
 pub document_lacks : (bytes : List ℕ) → counted_at pair_at bytes ≡ None → stored_document_of bytes ≡ None
 unfolding stored_document_of
 document_lacks bytes none = ap all_read none
+
+pub not_none : (n : ℕ) → nat_eq (suc n) 0 ≡ false
+not_none n = grind (arith, nat_tests)
 
 only_whole : (pairs : Document) (left : List ℕ) → nat_eq (length left) 0 ≡ true → all_read (Some (pairs, left)) ≡ Some pairs
 only_whole pairs [] empty = refl

@@ -1,5 +1,5 @@
-//! Stored documents: the bytes that a document is written to, their check without memory, and what is read from them.
-//! Code that scans the bytes itself takes them apart piece by piece.
+//! Stored documents: the bytes that a document is written to, and what is read from them. Code that scans the bytes
+//! itself takes them apart piece by piece, and passes trees over, without memory.
 //!
 //! Its model: `stored_form` gives the bytes of a document's stored pairs, and `stored_document_of` the fields with
 //! trees that bytes read as, if anything; the first reads back (`stored_documents_are_read`).
@@ -7,14 +7,15 @@
 //! ```rust
 //! let mut stored = Vec::new(alloc);
 //! put_document(&mut stored, &document.pairs(alloc)?, &schema)?;
-//! if is_stored_document(&stored) {
-//!     let again = document_of(alloc, &stored)?;
-//! }
+//! let again = document_of(alloc, &stored)?;
 //! let mut left = stored.as_slice();
 //! let count = take_varint(&mut left);
+//! let field = take_field(&mut left);
+//! let passed = pass_tree(&mut left, MOST_LEVELS);
 //! ```
 //!
-//! `again` has the document with those of its pairs whose fields are stored, and `count` is how many these are.
+//! `again` has the document with those of its pairs whose fields are stored. `count` is how many these are, `field` that
+//! of the first, and `left` what comes after its tree.
 #![tactic(auto)]
 
 // What is written.
@@ -25,8 +26,7 @@ mod tree_writer;
 // What is at the front of bytes.
 mod pieces;
 
-// The check.
-mod document_check;
+// What is passed over.
 mod tree_check;
 
 // What is read.
@@ -34,11 +34,11 @@ mod document_reader;
 mod leaf_reader;
 mod tree_reader;
 
-pub use document_check::{is_stored_document, take_field};
 pub use document_law::stored_documents_are_read;
 pub use document_reader::document_of;
 pub use document_writer::put_document;
 pub use pieces::{
-    take_address, take_bit, take_byte, take_front, take_number, take_sized, take_small, take_text,
-    take_varint,
+    take_address, take_bit, take_byte, take_field, take_front, take_number, take_sized, take_small,
+    take_text, take_varint,
 };
+pub use tree_check::pass_tree;

@@ -5,10 +5,15 @@ ghost use Rattle.std.specs.Prelude.{◌≡◌, ◌≢◌, [], ◌∷◌, length,
 ghost use Rattle.std.specs.Net.Addr.{ipv6_octets};
 ghost use Rattle.seg_common.specs.Varint.{varint_at};
 ghost use Rattle.seg_doc_bytes.specs.FrontReaders as read;
+ghost use Rattle.seg_doc_bytes.specs.PassedBytes.{begins_with};
+ghost use Rattle.seg_doc_bytes.specs.StoredDocument as documents;
 ghost use Rattle.seg_doc_bytes.specs.StoredTree as trees;
 
 use seg_common::{VInt, u64_at};
 use std::net::Ipv6Addr;
+
+/// The tag of a text with its tokens, which is no tree of a field by itself.
+const PRE_TOKENIZED: u8 = 2;
 
 /// Takes this many bytes.
 #[inline]
@@ -116,5 +121,28 @@ fn address_of(octets: &[u8]) -> Option<Ipv6Addr>
     match <[u8; 16]>::try_from(octets) {
         Ok(octets) => Some(Ipv6Addr::from_octets(octets)),
         Err(_) => None,
+    }
+}
+
+/// Takes the field of a pair: its tree is what comes next, of at most `MOST_LEVELS` levels.
+///
+/// Where no pair can follow, some of the bytes may be gone.
+pub fn take_field(bytes: &mut &[u8]) -> Option<u32>
+    ensures { MatchOption result (documents.pair_at bytes.old.now ≡ None) (λ field. documents.pair_at bytes.old.now
+        ≡ read.made_of (λ t. (field, t)) (trees.stored_tree_at documents.most_levels_read bytes.new.now)) }
+{
+    let field = take_small(bytes)?;
+    if begins_with(bytes, PRE_TOKENIZED) {
+        return None;
+    }
+    Some(field)
+}
+
+fn begins_with(bytes: &[u8], byte: u8) -> bool
+    ensures { result ≡ begins_with byte bytes.now }
+{
+    match bytes.first() {
+        Some(first) => *first == byte,
+        None => false,
     }
 }

@@ -102,7 +102,7 @@ fn pass_leaf(bytes: &mut &[u8], tag: u8) -> Option<()>
 
 /// Passes a tree of at most this many levels.
 #[cycle(pass_tree)]
-pub(crate) fn pass_tree(bytes: &mut &[u8], levels: u32) -> Option<()>
+pub fn pass_tree(bytes: &mut &[u8], levels: u32) -> Option<()>
     ensures { Passes (trees.stored_tree_at levels) bytes.old.now bytes.new.now result }
 {
     if levels == 0 {

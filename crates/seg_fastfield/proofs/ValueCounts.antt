@@ -22,7 +22,8 @@ use Rattle.seg_column_writer.specs.RecordingRules.{with_recorded}
 use Rattle.seg_column_writer.specs.declared.value_kind.ValueKind.{ValueKind}
 use Rattle.seg_column_writer.proofs.Exports.{key_named, new_column}
 use Rattle.seg_fastfield.specs.DeclaredColumns.{column_with, first_columns}
-use Rattle.seg_fastfield.specs.MemoryUsage.{saturated, total}
+use Rattle.seg_model.specs.SaturatedNumbers.{saturated}
+use Rattle.seg_fastfield.specs.MemoryUsage.{total}
 use Rattle.seg_fastfield.specs.FastFieldWriters.{FastWriting, Holds}
 
 -- ---- lists that have as many items alike to each item

@@ -10,7 +10,8 @@ ghost use Rattle.seg_model.specs.Columns.{FastValue, columns_of, declared_column
 ghost use Rattle.seg_model.specs.ValidInputs.{has_unknown_fast_tokenizer, names_fit};
 ghost use Rattle.seg_column_format.specs.FastTokenizers.{AreKnown};
 ghost use Rattle.seg_fastfield.specs.PathNumbers.{AreColumnsOf};
-ghost use Rattle.seg_fastfield.specs.MemoryUsage.{saturated, total};
+ghost use Rattle.seg_model.specs.SaturatedNumbers.{saturated};
+ghost use Rattle.seg_fastfield.specs.MemoryUsage.{total};
 ghost use Rattle.seg_fastfield.specs.FastFieldWriters.{Holds, error_of, refusal_of};
 
 use crate::path_columns::PathColumns;

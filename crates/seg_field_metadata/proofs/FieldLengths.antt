@@ -14,13 +14,14 @@ use Rattle.seg_postings.specs.OpenedFields.{OpenField, dictionary_terms}
 use Rattle.seg_postings.specs.JsonSpaces.{AreSpaces}
 use Rattle.seg_postings.specs.declared.field_space.InvertedIndexFieldSpace.{InvertedIndexFieldSpace}
 use Rattle.seg_field_metadata.specs.MetadataEntries.{Entry}
-use Rattle.seg_field_metadata.specs.IndexedFieldMetadata.{FieldSays, FieldSaysBy, Said, Sizes, dictionary_size, in_64_bits, indexed_entry, positions_size, postings_size, share, sizes_of, space_entry}
+use Rattle.seg_model.specs.SaturatedNumbers.{saturated}
+use Rattle.seg_field_metadata.specs.IndexedFieldMetadata.{FieldSays, FieldSaysBy, Said, Sizes, dictionary_size, indexed_entry, positions_size, postings_size, share, sizes_of, space_entry}
 use Rattle.seg_field_metadata.specs.PartLengths.{FieldBytes, IsOpenedFrom, MakeUp, lengths_of, sum_of}
 use Rattle.seg_field_metadata.proofs.DictionaryLengths.{dictionary_long, positions_fill, postings_fill}
 use Rattle.seg_field_metadata.proofs.Shares.{shares_least, shares_most}
 use Rattle.seg_field_metadata.proofs.SpaceSums.{no_space, positions_of_spaces, postings_of_spaces, terms_of_spaces}
 
-fits : (n : ℕ) → n < 2 ^ 64 → in_64_bits n ≡ n
+fits : (n : ℕ) → n < 2 ^ 64 → saturated n ≡ n
 fits n few = omega (arith, few)
 
 -- ---- all terms
@@ -42,9 +43,9 @@ module _ (f : OpenField) (b : FieldBytes) (from : IsOpenedFrom b f) where
 
   pub sizes_are : sizes_of (dictionary_terms f) ≡ lengths_of b
   sizes_are =
-      let terms = ap in_64_bits dictionary_is ∙ fits (length b.dictionary) from.few_terms in
-      let postings = ap in_64_bits postings_are ∙ fits (length b.postings) from.few_postings in
-      let positions = ap in_64_bits positions_are ∙ fits (length b.positions) from.few_positions in
+      let terms = ap saturated dictionary_is ∙ fits (length b.dictionary) from.few_terms in
+      let postings = ap saturated postings_are ∙ fits (length b.postings) from.few_postings in
+      let positions = ap saturated positions_are ∙ fits (length b.positions) from.few_positions in
       λ i. record { terms = terms i; postings = postings i; positions = positions i }
 
 -- ---- those of paths

@@ -10,7 +10,7 @@ use Rattle.seg_termdict.specs.Dictionary.{Term}
 use Rattle.seg_termdict.specs.SortedTerms.{RankedTerm}
 use Rattle.seg_termdict.specs.TermStreams.{Stream, advanced, current, no_ranked, no_term, ranked_terms}
 use Rattle.seg_termdict.proofs.Exports.{ranked_at, ranked_length, ranked_of}
-use Rattle.seg_field_metadata.specs.IndexedFieldMetadata.{in_64_bits}
+use Rattle.seg_model.specs.SaturatedNumbers.{saturated}
 
 -- ---- a sum that stays at a limit
 
@@ -21,8 +21,8 @@ twice : (limit base sum size more first next so_far : ℕ) → so_far ≡ min (b
     → next ≡ min (base + (sum + (size + more))) limit
 twice limit base sum size more first next so_far is first_is next_is = omega (arith, is, first_is, next_is)
 
-pub from_zero : (n : ℕ) → in_64_bits (0 + n) ≡ in_64_bits n
-from_zero n = let e : 0 + n ≡ n = omega arith in ap (λ (k : ℕ). in_64_bits k) e
+pub from_zero : (n : ℕ) → saturated (0 + n) ≡ saturated n
+from_zero n = let e : 0 + n ≡ n = omega arith in ap (λ (k : ℕ). saturated k) e
 
 -- ---- the terms
 
@@ -58,21 +58,21 @@ module _ (terms : List Term) (s : Stream) (of : s.terms ≡ ranked_terms terms) 
 
     -- a range of the term, where it is added to those of the terms before
     pub range_more : (range : TermInfo → ℕ) (info : TermInfo) → info ≡ (current after).info → (base so_far next : ℕ)
-        → so_far ≡ in_64_bits (base + sum_by (λ (t : Term). range t.1) (take s.taken terms)) → next ≡ in_64_bits (so_far + range info)
-        → next ≡ in_64_bits (base + sum_by (λ (t : Term). range t.1) (take after.taken terms))
+        → so_far ≡ saturated (base + sum_by (λ (t : Term). range t.1) (take s.taken terms)) → next ≡ saturated (so_far + range info)
+        → next ≡ saturated (base + sum_by (λ (t : Term). range t.1) (take after.taken terms))
     range_more range info info_is base so_far next so next_is =
         let here : range info ≡ range (get_or terms s.taken no_term).1 = ap range (info_is ∙ ap (λ (t : RankedTerm TermInfo). t.info) come_to) in
         once _ base (sum_by (λ (t : Term). range t.1) (take s.taken terms)) (range info) next so_far so next_is
-        ∙ ap (λ n. in_64_bits (base + (sum_by (λ (t : Term). range t.1) (take s.taken terms) + n))) here
-        ∙ ap (λ n. in_64_bits (base + n)) (sym (sum_more (λ (t : Term). range t.1)))
+        ∙ ap (λ n. saturated (base + (sum_by (λ (t : Term). range t.1) (take s.taken terms) + n))) here
+        ∙ ap (λ n. saturated (base + n)) (sym (sum_more (λ (t : Term). range t.1)))
 
     -- the key of the term, and what each term has beside it
     pub key_more : (key : List ℕ) → key ≡ (current after).key → (size base so_far first next : ℕ)
-        → so_far ≡ in_64_bits (base + sum_by (λ (t : Term). size + length t.0) (take s.taken terms)) → first ≡ in_64_bits (so_far + size)
-        → next ≡ in_64_bits (first + length key)
-        → next ≡ in_64_bits (base + sum_by (λ (t : Term). size + length t.0) (take after.taken terms))
+        → so_far ≡ saturated (base + sum_by (λ (t : Term). size + length t.0) (take s.taken terms)) → first ≡ saturated (so_far + size)
+        → next ≡ saturated (first + length key)
+        → next ≡ saturated (base + sum_by (λ (t : Term). size + length t.0) (take after.taken terms))
     key_more key key_is size base so_far first next so first_is next_is =
         let here : length key ≡ length (get_or terms s.taken no_term).0 = ap length (key_is ∙ ap (λ (t : RankedTerm TermInfo). t.key) come_to) in
         twice _ base (sum_by (λ (t : Term). size + length t.0) (take s.taken terms)) size (length key) first next so_far so first_is next_is
-        ∙ ap (λ n. in_64_bits (base + (sum_by (λ (t : Term). size + length t.0) (take s.taken terms) + (size + n)))) here
-        ∙ ap (λ n. in_64_bits (base + n)) (sym (sum_more (λ (t : Term). size + length t.0)))
+        ∙ ap (λ n. saturated (base + (sum_by (λ (t : Term). size + length t.0) (take s.taken terms) + (size + n)))) here
+        ∙ ap (λ n. saturated (base + n)) (sym (sum_more (λ (t : Term). size + length t.0)))

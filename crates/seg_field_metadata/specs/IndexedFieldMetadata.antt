@@ -1,11 +1,12 @@
 -- What the parts of indexed fields say, as entries of metadata.
-use Rattle.std.specs.Prelude.{◌≡◌, ℕ, ◌+◌, ◌*◌, ◌-◌, ◌/◌, ◌^◌, ◌==◌, min, ◌++◌, Bool, true, false, List, [], ◌∷◌, length, map, Some, None, if◌then◌else◌, String, string_bytes}
+use Rattle.std.specs.Prelude.{◌≡◌, ℕ, ◌+◌, ◌*◌, ◌-◌, ◌/◌, ◌==◌, ◌++◌, Bool, true, false, List, [], ◌∷◌, length, map, Some, None, if◌then◌else◌, String, string_bytes}
 use Rattle.std.specs.HashMap.{HashMap}
 use Rattle.std.specs.declared.alloc.Global.{Global}
 use Rattle.std.specs.List.{flat_map, sum_by}
 use Rattle.seg_values.specs.FieldTypes.{type_of}
 use Rattle.seg_values.specs.declared.field_type.FieldType.{FieldType}
 use Rattle.seg_values.specs.declared.schema.FieldEntry.{FieldEntry}
+use Rattle.seg_model.specs.SaturatedNumbers.{saturated}
 use Rattle.seg_model.specs.Fields.{is_json}
 use Rattle.seg_termdict.specs.Dictionary.{Term}
 use Rattle.seg_postings.specs.JsonSpaces.{AreSpaces}
@@ -34,15 +35,12 @@ pub record Sizes : Type 0 where
   pub postings : ℕ
   pub positions : ℕ
 
--- a part has fewer than 2^64 bytes
-abbrev pub in_64_bits : ℕ → ℕ
-in_64_bits size = min size (2 ^ 64 - 1)
-
+-- these sizes of terms, as they are kept: a part has fewer than 2^64 bytes
 abbrev pub sizes_of : List Term → Sizes
 sizes_of terms = record {
-  terms = in_64_bits (dictionary_size terms);
-  postings = in_64_bits (postings_size terms);
-  positions = in_64_bits (positions_size terms);
+  terms = saturated (dictionary_size terms);
+  postings = saturated (postings_size terms);
+  positions = saturated (positions_size terms);
 }
 
 abbrev pub indexed_entry : FieldEntry → List ℕ → FieldType → Sizes → Entry

@@ -57,15 +57,15 @@ is_filled-rows_of declared k rows h = by (not (is_number k.type) || is_type k.ty
     by true = h
     by false = is_filled-without_values rows
 
-no_column : (declared : List ColumnKey) (k : ColumnKey) (rows : Rows) → is_declared declared k ≡ false → list_any is_filled rows ≡ false → column_at declared k rows ≡ None
+pub no_column : (declared : List ColumnKey) (k : ColumnKey) (rows : Rows) → is_declared declared k ≡ false → list_any is_filled rows ≡ false → column_at declared k rows ≡ None
 no_column declared k rows d h = ap (λ b. cond b (Some (rows_of declared k rows)) None) (or_from (is_declared declared k) _ d (is_filled-rows_of declared k rows h))
 
-all_fit : (rows : Rows) → list_any is_filled rows ≡ false → list_all (list_all fits_i64) rows ≡ true
+pub all_fit : (rows : Rows) → list_any is_filled rows ≡ false → list_all (list_all fits_i64) rows ≡ true
 all_fit [] h = refl
 all_fit ([] ∷ rows) h = all_fit rows h
 all_fit ((v ∷ vs) ∷ rows) h = absurd (true≢false h)
 
-not_mixed : (declared : List ColumnKey) (k : ColumnKey) (rows : Rows) → list_any is_filled rows ≡ false → is_mixed declared k rows ≡ false
+pub not_mixed : (declared : List ColumnKey) (k : ColumnKey) (rows : Rows) → list_any is_filled rows ≡ false → is_mixed declared k rows ≡ false
 not_mixed declared k rows h = by (is_declared declared (record { path = k.path; type = I64 })) (is_declared declared (record { path = k.path; type = U64 })) (list_all (list_all fits_i64) rows) (all_fit rows h)
   where
     by : (a b c : Bool) → c ≡ true → (is_number k.type && not (is_type I64 (cond a (Some I64) (cond b (Some U64) (cond c (Some I64) (cond (list_all (list_all is_not_negative) rows) (Some U64) None)))) || is_type U64 (cond a (Some I64) (cond b (Some U64) (cond c (Some I64) (cond (list_all (list_all is_not_negative) rows) (Some U64) None)))))) ≡ false
@@ -76,18 +76,28 @@ not_mixed declared k rows h = by (is_declared declared (record { path = k.path; 
 
 -- ---- what a table of columns has
 
+-- no row has a value but at these keys
+abbrev pub IsNothingElse : (ColumnKey → Rows) → List ColumnKey → Type 0
+IsNothingElse at ks = (q : ColumnKey) → is_among column_cmp ks q ≡ false → list_any is_filled (at q) ≡ false
+
 module _ (declared : List ColumnKey) where
   -- no column, and no path of mixed numbers, but at these keys
   pub record Covers (at : ColumnKey → Rows) (ks : List ColumnKey) : Type 0 where
     pub there : IsComplete column_cmp_total columns_apart (λ k. column_at declared k (at k)) ks
     pub mixed : IsCovered columns_apart (λ k. is_mixed declared k (at k)) ks
 
-  -- it is enough that no document has a value elsewhere, and that declared keys are among them
-  pub covers : (at : ColumnKey → Rows) (ks : List ColumnKey) → ((q : ColumnKey) → is_among column_cmp (declared ++ ks) q ≡ false → list_any is_filled (at q) ≡ false) → Covers at (declared ++ ks)
-  covers at ks h = record {
-    there = record { outside = λ q n. no_column declared q (at q) (first_false (is_among column_cmp declared q) _ (sym (list_any-append (eq_by_cmp column_cmp q) declared ks) ∙ n)) (h q n) };
-    mixed = record { outside = λ q n. not_mixed declared q (at q) (h q n) };
+  -- it is enough that nothing is elsewhere, and that declared keys are among them
+  pub covers : (at : ColumnKey → Rows) (ks : List ColumnKey) → IsNothingElse at ks → Covers at (declared ++ ks)
+  covers at ks nothing = record {
+    there = record { outside = λ q n. no_column declared q (at q) (first_false (is_among column_cmp declared q) _ (outside q n)) (not_there q n) };
+    mixed = record { outside = λ q n. not_mixed declared q (at q) (not_there q n) };
   }
+    where
+      outside : (q : ColumnKey) → is_among column_cmp (declared ++ ks) q ≡ false → (is_among column_cmp declared q || is_among column_cmp ks q) ≡ false
+      outside q n = sym (list_any-append (eq_by_cmp column_cmp q) declared ks) ∙ n
+
+      not_there : (q : ColumnKey) → is_among column_cmp (declared ++ ks) q ≡ false → list_any is_filled (at q) ≡ false
+      not_there q n = nothing q (second_false (is_among column_cmp declared q) _ (outside q n))
 
   pub same_columns : (at to : ColumnKey → Rows) (ks ms : List ColumnKey) → Covers at ks → Covers to ms → ((q : ColumnKey) → at q ≡ to q) → columns_from declared at ks ≡ columns_from declared to ms
   same_columns at to ks ms ca ct h =
@@ -119,7 +129,7 @@ module _ (declared : List ColumnKey) where
 
 -- ---- the columns of documents
 
-pub values_at-none : (q : ColumnKey) (vs : List FastValue) → is_among column_cmp (flat_map value_keys vs) q ≡ false → values_at q vs ≡ []
+values_at-none : (q : ColumnKey) (vs : List FastValue) → is_among column_cmp (flat_map value_keys vs) q ≡ false → values_at q vs ≡ []
 values_at-none q [] h = refl
 values_at-none q (v ∷ vs) h =
     let both = sym (list_any-append (eq_by_cmp column_cmp q) (value_keys v) (flat_map value_keys vs)) ∙ h in
@@ -134,7 +144,7 @@ is_filled-values_at q (d ∷ ds) h =
     (is_filled-values_at q ds (second_false (is_among column_cmp (flat_map value_keys d) q) _ both))
 
 pub covers_documents : (declared : List ColumnKey) (ds : List (List FastValue)) → Covers declared (λ k. map (values_at k) ds) (declared ++ flat_map (flat_map value_keys) ds)
-covers_documents declared ds = covers declared (λ k. map (values_at k) ds) (flat_map (flat_map value_keys) ds) (λ q n. is_filled-values_at q ds (second_false (is_among column_cmp declared q) _ (sym (list_any-append (eq_by_cmp column_cmp q) declared (flat_map (flat_map value_keys) ds)) ∙ n)))
+covers_documents declared ds = covers declared (λ k. map (values_at k) ds) (flat_map (flat_map value_keys) ds) (λ q n. is_filled-values_at q ds n)
 
 -- numbers of a path are at I64 and at U64 alike
 number_keys : (path at : List ℕ) (v : ColumnValue) → is_among column_cmp (map (λ type. record { path = at; type = type }) (value_types v)) (record { path = path; type = I64 }) ≡ is_among column_cmp (map (λ type. record { path = at; type = type }) (value_types v)) (record { path = path; type = U64 })
@@ -265,7 +275,7 @@ no_part_column k p h = by (get p.contents.columns k) (contains_key-keys p.conten
     by None e = refl
     by (Some x) e = absurd (true≢false e)
 
-pub twice_nothing : (n : ℕ) → list_any is_filled (side_by_side (replicate n []) (replicate n [])) ≡ false
+twice_nothing : (n : ℕ) → list_any is_filled (side_by_side (replicate n []) (replicate n [])) ≡ false
 twice_nothing zero = refl
 twice_nothing (suc n) = twice_nothing n
 
@@ -304,7 +314,7 @@ is_filled-kept (b ∷ bs) [] h = refl
 is_filled-kept (true ∷ bs) (x ∷ xs) h = or_from (is_filled x) _ (first_false (is_filled x) _ h) (is_filled-kept bs xs (second_false (is_filled x) _ h))
 is_filled-kept (false ∷ bs) (x ∷ xs) h = is_filled-kept bs xs (second_false (is_filled x) _ h)
 
-is_filled-parts : (q : ColumnKey) (ps : List Part) → is_among column_cmp (flat_map (λ p. flat_map joined_keys (keys p.contents.columns)) ps) q ≡ false → list_any is_filled (live_of (part_rows q) ps) ≡ false
+pub is_filled-parts : (q : ColumnKey) (ps : List Part) → is_among column_cmp (flat_map (λ p. flat_map joined_keys (keys p.contents.columns)) ps) q ≡ false → list_any is_filled (live_of (part_rows q) ps) ≡ false
 is_filled-parts q [] h = refl
 is_filled-parts q (p ∷ ps) h =
     let both = sym (list_any-append (eq_by_cmp column_cmp q) (flat_map joined_keys (keys p.contents.columns)) (flat_map (λ p. flat_map joined_keys (keys p.contents.columns)) ps)) ∙ h in
@@ -312,7 +322,7 @@ is_filled-parts q (p ∷ ps) h =
     (is_filled-parts q ps (second_false (is_among column_cmp (flat_map joined_keys (keys p.contents.columns)) q) _ both))
 
 pub covers_parts : (declared : List ColumnKey) (ps : List Part) → Covers declared (λ k. live_of (part_rows k) ps) (declared ++ flat_map (λ p. flat_map joined_keys (keys p.contents.columns)) ps)
-covers_parts declared ps = covers declared (λ k. live_of (part_rows k) ps) (flat_map (λ p. flat_map joined_keys (keys p.contents.columns)) ps) (λ q n. is_filled-parts q ps (second_false (is_among column_cmp declared q) _ (sym (list_any-append (eq_by_cmp column_cmp q) declared (flat_map (λ p. flat_map joined_keys (keys p.contents.columns)) ps)) ∙ n)))
+covers_parts declared ps = covers declared (λ k. live_of (part_rows k) ps) (flat_map (λ p. flat_map joined_keys (keys p.contents.columns)) ps) (λ q n. is_filled-parts q ps n)
 
 -- the columns of parts joined are those of the live documents, each undefined where the other is
 pub columns_live : (schema : Schema) (analyzer : Analyzer) (bs : List Batch) (ps : List Part) → AreReadingsOf schema analyzer bs ps → joined_columns schema ps ≡ columns schema analyzer (flat_map live bs)

@@ -18,6 +18,7 @@ pub mod Operations
 pub mod Postings
 pub mod Refusals
 pub mod RemovalLaws
+pub mod SaturatedNumbers
 pub mod SelfToldContents
 pub mod Shape
 pub mod Stamps

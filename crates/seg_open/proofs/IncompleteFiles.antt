@@ -1,5 +1,5 @@
 -- Files that can't be completed.
-use Rattle.std.proofs.Common.{◌≡◌, ◌≢◌, ℕ, true, List, length, Option, Some, None, Result, Err, IfErr, IsErrAnd, sym, ap, ◌∙◌, subst, refl}
+use Rattle.std.proofs.Common.{◌≡◌, ℕ, true, List, length, Option, Some, None, Result, Err, IfErr, IsErrAnd, sym, ap, ◌∙◌, subst, refl}
 use Rattle.std.proofs.lemmas.Option.{same_Some}
 use Rattle.std.proofs.lemmas.Result.{err_from_is_err_and}
 use Rattle.std.specs.FinMap.{empty}
@@ -20,8 +20,6 @@ use Rattle.seg_column_format.specs.SchemaColumns.{HoldColumns, SuitColumns}
 use Rattle.seg_store.specs.Block.{Block}
 use Rattle.seg_store.specs.Store.{store_of, documents_of}
 use Rattle.seg_store.specs.StoredFields.{have_stored_fields}
-use Rattle.seg_norms.specs.FieldNorms.{norms_parts}
-use Rattle.seg_norms.specs.StoredNorms.{AreNorms}
 use Rattle.seg_postings.specs.OpenedFields.{FieldRules, FirstPart, FirstParts, IsFieldBy, OpenField, rules_of}
 use Rattle.seg_postings.specs.FieldSerializers.{TermWritten}
 use Rattle.seg_postings.proofs.Exports.{dictionary_of_field}

@@ -1,22 +1,19 @@
 -- What the opening of segments says of the directory, and of what was opened.
-use Rattle.std.proofs.Common.{◌≡◌, ◌⊎◌, ◌∙◌, ℕ, Bool, true, false, List, [], ◌∷◌, ◌++◌, Option, Some, None, Result, Ok, Err, refl, sym, ap, subst, inl, inr, arith}
+use Rattle.std.proofs.Common.{◌≡◌, ◌∙◌, ℕ, Bool, true, false, List, [], ◌∷◌, Option, Some, None, Result, Ok, Err, refl, sym, ap, subst, arith}
 use Rattle.std.specs.Prelude.{IfErr, IfSome, IsTrue, replicate, is_some, if◌then◌else◌}
 use Rattle.std.specs.FinMap.{get}
 use Rattle.std.specs.List.{AllByRecursion}
-use Rattle.std.proofs.lemmas.Bool.{false≢true}
-use Rattle.std.proofs.lemmas.Option.{none-some, same_Some}
+use Rattle.std.proofs.lemmas.Option.{same_Some}
 use Rattle.seg_common.specs.FaultCounts.{Rose}
 use Rattle.seg_common.specs.declared.name.FileName.TheVariants.{Alive, Part}
 use Rattle.seg_common.specs.declared.name.SegmentComponent.TheVariants.{Postings}
 use Rattle.seg_values.specs.declared.error.TantivyError.{TantivyError}
-use Rattle.seg_values.specs.declared.error.TantivyError.TheVariants.{DataCorruption, InvalidArgument, OpenReadError, OutOfMemory}
+use Rattle.seg_values.specs.declared.error.TantivyError.TheVariants.{DataCorruption, OpenReadError, OutOfMemory}
 use Rattle.seg_bits.specs.BitSets.{set_of}
 use Rattle.seg_directory.proofs.Exports.{Parts, all_went, in_first, in_next, parts_on}
-use Rattle.seg_directory.specs.StepSequences.{GoesOn}
 use Rattle.seg_directory.specs.Files.{NamedFiles}
 use Rattle.seg_directory.specs.DirectoryStates.{DirectoryState}
-use Rattle.seg_directory.specs.DirectorySteps.{AllSuit, Step, StepBreaks, StepGoes, Works, passes}
-use Rattle.seg_model.specs.Fields.{Schema}
+use Rattle.seg_directory.specs.DirectorySteps.{AllSuit, Step, Works}
 use Rattle.seg_model.specs.Operations.{filtered_by}
 use Rattle.seg_model.specs.Shape.{HasFullShape}
 use Rattle.seg_meta.specs.IndexOfFiles as index

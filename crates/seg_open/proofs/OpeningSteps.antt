@@ -1,12 +1,12 @@
 -- Segments that are opened: one of them, and one after another.
-use Rattle.std.proofs.Common.{◌≡◌, ℕ, zero, suc, ◌+◌, Bool, List, [], ◌∷◌, ◌++◌, length, map, take, drop, Option, Some, None, Result, Ok, Err, refl, sym, ap, ◌∙◌, subst, append_assoc, inl, inr, arith}
+use Rattle.std.proofs.Common.{◌≡◌, ℕ, zero, suc, ◌+◌, Bool, List, [], ◌∷◌, ◌++◌, length, map, take, drop, Option, Some, Result, Ok, Err, refl, sym, ap, ◌∙◌, subst, append_assoc, inl, inr, arith}
 use Rattle.std.specs.List.{slice_get}
 use Rattle.std.proofs.lemmas.List.{take-append-drop}
 use Rattle.std.proofs.lemmas.Option.{none-some, same_Some}
 use Rattle.seg_common.proofs.Lists.{drop-slice_get, take-slice_get}
 use Rattle.seg_values.specs.declared.error.TantivyError.{TantivyError}
 use Rattle.seg_values.specs.declared.error.TantivyError.TheVariants.{OutOfMemory}
-use Rattle.seg_directory.proofs.Exports.{broke, does_nothing, stops, then_does, went}
+use Rattle.seg_directory.proofs.Exports.{broke, does_nothing, stops, then_does}
 use Rattle.seg_directory.specs.StepSequences.{GoesOn}
 use Rattle.seg_directory.specs.DirectoryStates.{DirectoryState}
 use Rattle.seg_directory.specs.DirectorySteps.{Step, StepGoes, StepBreaks, Works}

@@ -1,5 +1,5 @@
 -- The six files of a segment, read and opened one after another.
-use Rattle.std.proofs.Common.{◌≡◌, ◌∙◌, ℕ, List, [], ◌∷◌, ◌++◌, length, Option, Some, None, Result, Ok, Err, IsErrAnd, refl, sym, ap, subst}
+use Rattle.std.proofs.Common.{◌≡◌, ℕ, List, [], ◌∷◌, ◌++◌, Option, Some, Result, Ok, Err, IsErrAnd, refl, sym, ap, subst}
 use Rattle.seg_common.specs.declared.name.FileName.TheVariants.{Part}
 use Rattle.seg_common.specs.declared.name.SegmentComponent.{SegmentComponent}
 use Rattle.seg_common.specs.declared.name.SegmentComponent.TheVariants.{Terms, Store, Postings, Positions, FastFields, FieldNorms}
@@ -12,14 +12,14 @@ use Rattle.seg_directory.specs.DirectorySteps.{Works, WorksFor, calls}
 use Rattle.seg_model.specs.Fields.{Schema}
 use Rattle.seg_column_format.specs.SchemaColumns.{HoldColumns}
 use Rattle.seg_store.specs.Block.{Block}
-use Rattle.seg_postings.specs.OpenedFields.{FirstPart, FirstParts, OpenField}
+use Rattle.seg_postings.specs.OpenedFields.{FirstPart, OpenField}
 use Rattle.seg_segment.specs.declared.segment_files.SegmentFiles.{SegmentFiles}
 use Rattle.seg_open.specs.Disagreement.{Disagree}
 use Rattle.seg_open.specs.FileReads.{FirstRead, ReadsFiles, ReadsFirst}
 use Rattle.seg_open.specs.OpenedFiles.{AreOpen, NormsUnopened, StoreOpened, StoreUnopened}
-use Rattle.seg_open.specs.OpenedTermFiles.{IsTold, PositionsOpened, PositionsUnopened, PostingsOpened, PostingsUnopened, TermsOpened, TermsUnopened}
+use Rattle.seg_open.specs.OpenedTermFiles.{IsTold, PositionsOpened, PositionsUnopened, PostingsUnopened, TermsOpened, TermsUnopened}
 use Rattle.seg_open.specs.SoundFiles.{SoundPositions, SoundPostings, SoundStore, SoundTerms}
-use Rattle.seg_open.specs.OpeningSteps.{Check, IsChecked, check_steps, damaged, error_of, refusal_of, sound, unfinished}
+use Rattle.seg_open.specs.OpeningSteps.{Check, IsChecked, check_steps, damaged, error_of, sound, unfinished}
 use Rattle.seg_open.specs.declared.core_readers.CoreReaders.{CoreReaders}
 use Rattle.seg_open.specs.declared.core_readers.FirstReaders.{FirstReaders}
 use Rattle.seg_open.specs.declared.open_error.OpenError.{OpenError}

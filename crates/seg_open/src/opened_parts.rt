@@ -1,5 +1,5 @@
 //! The store, the columns and the length ids of a segment, each checked against its number of documents.
-ghost use Rattle.std.specs.Prelude.{◌≡◌, ◌≢◌, ℕ, List, length, true, false, Some, None, MatchOption, MatchResult};
+ghost use Rattle.std.specs.Prelude.{◌≡◌, ◌≢◌, List, length, true, Some, None, MatchOption, MatchResult};
 ghost use Rattle.seg_column_file.specs.ColumnFiles.{column_file_of};
 ghost use Rattle.seg_open.specs.OpenedFiles.{NormsOpened, NormsUnopened, StoreOpened, StoreUnopened};
 ghost use Rattle.seg_open.specs.OpenedTermFiles.{IsTold};

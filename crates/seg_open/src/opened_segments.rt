@@ -1,5 +1,5 @@
 //! Segments that are opened one after another.
-ghost use Rattle.std.specs.Prelude.{◌≡◌, ◌++◌, ◌∷◌, [], ◌<◌, length, slice_get, Some, IfOk, IfSome, vec_len, vec_capacity};
+ghost use Rattle.std.specs.Prelude.{◌≡◌, ◌++◌, ◌∷◌, [], ◌<◌, length, Some, IfOk, IfSome, vec_len, vec_capacity};
 ghost use Rattle.seg_open.specs.Answers.{seen_as};
 ghost use Rattle.seg_open.specs.OpeningSteps.{FiltersFit, OpensNext, OpensSegments, asked_of};
 

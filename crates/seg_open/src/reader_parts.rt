@@ -1,5 +1,5 @@
 //! What a segment that is open has.
-ghost use Rattle.std.specs.Prelude.{◌≡◌, ◌≢◌, ◌+◌, ◌*◌, [], true, false, not, length, map, is_some, replicate, get_or, if◌then◌else◌, Contains, Some, None, IfOk, IfErr, IfSome, MatchOption};
+ghost use Rattle.std.specs.Prelude.{◌≡◌, ◌+◌, ◌*◌, [], true, false, not, length, map, is_some, replicate, get_or, if◌then◌else◌, Contains, Some, None, IfOk, IfErr, IfSome, MatchOption};
 ghost use Rattle.std.specs.List.{count_by, list_all, slice_get};
 ghost use Rattle.seg_bits.specs.BitSets.{member_count, numbers_from, words_for};
 ghost use Rattle.seg_directory.specs.CompositeFiles.{field_of};

@@ -1,5 +1,5 @@
 //! A segment that is open.
-ghost use Rattle.std.specs.Prelude.{◌≡◌, true, length, map, is_some, None, replicate, IfOk, IfErr, IfSome, IsTrue};
+ghost use Rattle.std.specs.Prelude.{◌≡◌, true, length, map, is_some, None, IfOk, IfErr, IfSome, IsTrue};
 ghost use Rattle.seg_directory.specs.DiskChanges.{KeepsDisk};
 ghost use Rattle.seg_meta.specs.IndexOfFiles as index;
 ghost use Rattle.seg_model.specs.Fields.{is_indexed};

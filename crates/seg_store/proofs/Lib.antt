@@ -15,8 +15,6 @@ mod KeptBlocks
 mod MadeDocuments
 mod PartPlaces
 mod PassedPairs
-mod PassedTrees
-mod ReadSequences
 mod SplitFiles
 mod StackedBlocks
 mod Stores

@@ -1,12 +1,12 @@
 -- Pairs of a stored document that are passed, each with a field that passes a test.
-use Rattle.std.proofs.Common.{◌≡◌, ℕ, suc, Bool, true, false, List, [], ◌∷◌, length, Option, Some, None, arith, refl, sym, ap, ◌∙◌, if◌then◌else◌}
+use Rattle.std.proofs.Common.{◌≡◌, ℕ, Bool, true, false, List, [], ◌∷◌, length, Option, Some, None, refl, sym, ap, ◌∙◌, if◌then◌else◌}
 use Rattle.std.specs.Prelude.{nat_eq, is_some}
-use Rattle.std.proofs.lemmas.Bool.Decides.{nat_tests}
 use Rattle.seg_values.specs.Tree.{Tree}
 use Rattle.seg_doc_bytes.specs.PassedBytes.{Passed, Passes}
 use Rattle.seg_doc_bytes.specs.FrontReaders.{then_read, made_of, counted_at}
 use Rattle.seg_doc_bytes.specs.StoredDocument.{most_levels_read, pair_at, all_read}
 use Rattle.seg_doc_bytes.specs.StoredTree.{stored_tree_at}
+use Rattle.seg_doc_bytes.proofs.Exports.{not_none}
 use Rattle.seg_store.specs.CheckedFields.{pair_of, is_document_of}
 
 abbrev with_field : ℕ → Option (Tree × List ℕ) → Option ((ℕ × Tree) × List ℕ)
@@ -39,9 +39,6 @@ module _ (test : ℕ → Bool) where
   pair_passed old left new field None is passes p = front old left field is passes ∙ ap (with_field field) p
 
 -- ---- a whole document
-
-not_none : (n : ℕ) → nat_eq (suc n) 0 ≡ false
-not_none n = grind (arith, nat_tests)
 
 rest_empty : (pairs : List (ℕ × Tree)) (left : List ℕ) → nat_eq (length left) 0 ≡ is_some (all_read (Some (pairs, left)))
 rest_empty pairs [] = refl

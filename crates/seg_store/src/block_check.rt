@@ -1,5 +1,5 @@
 //! Whether bytes are a block.
-ghost use Rattle.std.specs.Prelude.{◌≡◌, ◌≤◌, ◌+◌, ◌*◌, length, true, false, option_map, MatchOption};
+ghost use Rattle.std.specs.Prelude.{◌≡◌, ◌≤◌, ◌*◌, length, true, false, option_map, MatchOption};
 ghost use Rattle.seg_store.specs.Block as block;
 ghost use Rattle.seg_store.specs.CheckedFields.{is_block_of, is_document_of, may_have};
 ghost use Rattle.seg_store.specs.CutParts.{are_parts};

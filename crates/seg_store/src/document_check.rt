@@ -7,8 +7,7 @@ ghost use Rattle.seg_doc_bytes.specs.PassedBytes.{Passes};
 ghost use Rattle.seg_store.specs.CheckedFields.{is_document_of, may_have, pair_of};
 ghost use Rattle.seg_store.specs.StoredFields as fields;
 
-use crate::tree_check::pass_tree;
-use seg_doc_bytes::{take_field, take_varint};
+use seg_doc_bytes::{pass_tree, take_field, take_varint};
 use seg_values::{MOST_LEVELS, Schema};
 
 /// Whether bytes are a stored document, from the first to the last, of which each pair has a stored field of the

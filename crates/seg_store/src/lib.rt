@@ -33,7 +33,6 @@ mod block_check;
 mod document_check;
 mod parts;
 mod store_check;
-mod tree_check;
 
 // What is read.
 mod block_reader;

@@ -1,7 +1,7 @@
 //! The blocks of a store that is being written.
 ghost use Rattle.std.specs.Prelude.{◌≡◌, ◌≢◌, ◌≤◌, ◌<◌, ◌+◌, ◌-◌, ◌^◌, ◌++◌, [], true, length, take, drop, map, Some, IfOk, OnOk};
 ghost use Rattle.std.specs.List.{flat_map};
-ghost use Rattle.std.specs.Int.{w32, w64, to_le_bytes};
+ghost use Rattle.std.specs.Int.{w64, to_le_bytes};
 ghost use Rattle.seg_model.specs.DocumentTerms.{stored_document};
 ghost use Rattle.seg_values.specs.StoredBytes.{stored_form};
 ghost use Rattle.seg_doc_bytes.specs.StoredDocument.{stored_document_of, is_stored_document};

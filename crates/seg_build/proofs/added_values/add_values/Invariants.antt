@@ -1,7 +1,8 @@
 use Rattle.std.proofs.Common.{◌≡◌, ◌+◌, ◌-◌, ◌^◌, ◌≤◌, map, drop}
 use Rattle.std.specs.List.{AllByRecursion}
 use Rattle.seg_check.specs.IndexedValues.{IsPlainIn, value_in}
-use Rattle.seg_build.specs.MemoryUsage.{saturated, value_count}
+use Rattle.seg_model.specs.SaturatedNumbers.{saturated}
+use Rattle.seg_build.specs.MemoryUsage.{value_count}
 use Rattle.seg_build.specs.FieldsByValue.{AllFit, with_values}
 use Rattle.seg_build.proofs.added_values.add_values.Given as goal
 

@@ -3,7 +3,7 @@ use Rattle.seg_values.specs.Tree.{levels, array, object, trees_from, members_fro
 use Rattle.seg_values.specs.ValueTrees.{tree_of}
 use Rattle.seg_values.proofs.Exports.{levels-at, member_levels-at}
 use Rattle.seg_values.specs.StoredBytes.{sized, tree_form}
-use Rattle.seg_check.specs.TextSizes.{saturated}
+use Rattle.seg_model.specs.SaturatedNumbers.{saturated}
 use Rattle.seg_check.proofs.TextSizeSums.{saturated-sum}
 use Rattle.seg_check.proofs.StoredLengths.{array_begins, object_begins, tree_more, member_more, sized_bytes}
 use Rattle.seg_check.proofs.stored_len.+tree_len.Goals as goal

@@ -2,7 +2,7 @@ use Rattle.std.proofs.Common.{◌≡◌, ◌+◌, ◌≤◌, ◌-◌, ◌^◌, l
 use Rattle.seg_values.specs.Tree.{levels, trees_from, members_from}
 use Rattle.seg_values.specs.ValueTrees.{tree_of}
 use Rattle.seg_values.specs.StoredBytes.{tree_form, tree_forms, member_forms}
-use Rattle.seg_check.specs.TextSizes.{saturated}
+use Rattle.seg_model.specs.SaturatedNumbers.{saturated}
 use Rattle.seg_check.proofs.stored_len.+tree_len.Given as goal
 
 abbrev pub decreases-tree_len : goal.decreases-tree_len

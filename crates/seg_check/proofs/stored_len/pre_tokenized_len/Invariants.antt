@@ -2,7 +2,7 @@ use Rattle.std.proofs.Common.{◌≡◌, ◌+◌, ◌≤◌, ◌-◌, ◌^◌, l
 use Rattle.std.specs.List.{flat_map}
 use Rattle.seg_values.specs.Tree.{pre_tokenized}
 use Rattle.seg_values.specs.StoredBytes.{token_form, leaf_form}
-use Rattle.seg_check.specs.TextSizes.{saturated}
+use Rattle.seg_model.specs.SaturatedNumbers.{saturated}
 use Rattle.seg_check.proofs.stored_len.pre_tokenized_len.Given as goal
 
 -- what is so far, with what is left, is all

@@ -4,7 +4,7 @@ use Rattle.seg_values.specs.ValueTrees.{tree_of}
 use Rattle.seg_model.specs.Fields.{is_field}
 use Rattle.seg_model.specs.DocumentTerms.{stored_document}
 use Rattle.seg_values.specs.StoredBytes.{pair_form}
-use Rattle.seg_check.specs.TextSizes.{saturated}
+use Rattle.seg_model.specs.SaturatedNumbers.{saturated}
 use Rattle.seg_check.proofs.StoredLengths.{pair_skipped, pair_kept, pair_more}
 use Rattle.seg_check.proofs.stored_len.stored_len.Goals as goal
 

@@ -2,7 +2,7 @@ use Rattle.std.proofs.Common.{◌≡◌, ◌+◌, ◌≤◌, length, drop}
 use Rattle.std.specs.List.{flat_map}
 use Rattle.seg_model.specs.DocumentTerms.{stored_document}
 use Rattle.seg_values.specs.StoredBytes.{pair_form}
-use Rattle.seg_check.specs.TextSizes.{saturated}
+use Rattle.seg_model.specs.SaturatedNumbers.{saturated}
 use Rattle.seg_check.proofs.stored_len.stored_len.Given as goal
 
 -- what is so far, with what is left, is all

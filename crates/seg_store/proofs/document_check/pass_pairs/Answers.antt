@@ -1,6 +1,6 @@
 use Rattle.std.specs.Prelude.{option_map}
 use Rattle.seg_store.specs.CheckedFields.{may_have, pair_of}
-use Rattle.seg_store.proofs.ReadSequences.{turn}
+use Rattle.seg_doc_bytes.proofs.Exports.{turn}
 use Rattle.seg_store.proofs.document_check.pass_pairs.Goals as goal
 
 pub loop-preserved : goal.loop-preserved

@@ -1,7 +1,7 @@
 use Rattle.std.proofs.Common.{◌-◌}
 use Rattle.std.specs.Prelude.{option_map}
 use Rattle.seg_store.specs.CheckedFields.{may_have, pair_of}
-use Rattle.seg_store.proofs.ReadSequences.{Standing}
+use Rattle.seg_doc_bytes.proofs.Exports.{Standing}
 use Rattle.seg_store.proofs.document_check.pass_pairs.Given as goal
 
 abbrev pub invariant-loop : goal.invariant-loop

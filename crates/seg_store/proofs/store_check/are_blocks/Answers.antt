@@ -1,4 +1,4 @@
-use Rattle.std.proofs.Common.{◌≡◌, ℕ, List, Bool, false, length, option_map, sym, ap, ◌∙◌, arith, ◌&&◌}
+use Rattle.std.proofs.Common.{◌≡◌, false, length, option_map, sym, ap, ◌∙◌, arith, ◌&&◌}
 use Rattle.std.specs.Prelude.{◌==◌}
 use Rattle.std.proofs.lemmas.Bool.{true≢false, and_left, eq-eqb, ne_eqb}
 use Rattle.seg_store.specs.Block.{documents_in}

@@ -11,7 +11,7 @@ use Rattle.seg_check.specs.Paths.{IsNumbered, path_leaf}
 use Rattle.seg_check.proofs.Exports.{no_more}
 use Rattle.seg_build.specs.GatheredFieldTerms.{AddsLeaf, json_gathered, with_leaves}
 use Rattle.seg_build.specs.LeafPositions.{LeafFits, LeavesFit, leaf_count, leaves_count}
-use Rattle.seg_build.specs.MemoryUsage.{saturated}
+use Rattle.seg_model.specs.SaturatedNumbers.{saturated}
 use Rattle.seg_build.specs.PathStarts.{path_start}
 use Rattle.seg_build.proofs.GatheredLeaves.{leaves_turn, count_turn, fit_turn, fit_first}
 use Rattle.seg_build.proofs.json_terms.JsonTerms.add_found.Goals as goal

@@ -5,7 +5,7 @@ use Rattle.seg_check.specs.LeafContents.{with_texts}
 use Rattle.seg_check.specs.Paths.{IsNumbered, path_leaf}
 use Rattle.seg_build.specs.GatheredFieldTerms.{json_gathered, with_leaves}
 use Rattle.seg_build.specs.LeafPositions.{LeavesFit, leaves_count}
-use Rattle.seg_build.specs.MemoryUsage.{saturated}
+use Rattle.seg_model.specs.SaturatedNumbers.{saturated}
 use Rattle.seg_build.specs.PathStarts.{path_start}
 use Rattle.seg_build.proofs.json_terms.JsonTerms.add_found.Given as goal
 

@@ -8,7 +8,7 @@ use Rattle.seg_check.specs.Paths.{path_leaf}
 use Rattle.seg_check.proofs.Exports.{are-leaves}
 use Rattle.seg_build.specs.GatheredFieldTerms.{with_leaves}
 use Rattle.seg_build.specs.LeafPositions.{LeavesFit, leaves_count}
-use Rattle.seg_build.specs.MemoryUsage.{saturated}
+use Rattle.seg_model.specs.SaturatedNumbers.{saturated}
 use Rattle.seg_build.specs.PathStarts.{path_start, starts_of}
 use Rattle.seg_build.proofs.StartsByNumber.{starts-extended}
 use Rattle.seg_build.proofs.json_terms.JsonTerms.add_leaves.Goals as goal

@@ -1,5 +1,6 @@
 use Rattle.std.proofs.Common.{◌≡◌, ◌∙◌, ap, arith, subst}
-use Rattle.seg_build.specs.MemoryUsage.{length_fields, memory_usage, saturated}
+use Rattle.seg_model.specs.SaturatedNumbers.{saturated}
+use Rattle.seg_build.specs.MemoryUsage.{length_fields, memory_usage}
 use Rattle.seg_build.specs.SegmentWriters.{kept_of, IsKeptOf, Writes}
 use Rattle.seg_build.proofs.WriterContents.{of_parts}
 use Rattle.seg_build.proofs.UsedMemory.{usage_is}

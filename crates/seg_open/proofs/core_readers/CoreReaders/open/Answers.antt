@@ -1,4 +1,3 @@
-use Rattle.std.proofs.Common.{refl}
 use Rattle.seg_common.specs.declared.name.SegmentComponent.TheVariants.{FastFields, FieldNorms, Positions, Postings, Store, Terms}
 use Rattle.seg_open.proofs.IncompleteFiles.{columns_wrong, norms_wrong, positions_wrong, postings_wrong, store_wrong, terms_wrong, told, why}
 use Rattle.seg_open.proofs.OpeningStages.{terms_are_open}

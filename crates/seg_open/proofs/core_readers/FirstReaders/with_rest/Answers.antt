@@ -1,4 +1,4 @@
-use Rattle.std.proofs.Common.{rules, ◌≡◌}
+use Rattle.std.proofs.Common.{rules}
 use Rattle.seg_common.specs.declared.name.SegmentComponent.TheVariants.{FastFields, FieldNorms, Positions}
 use Rattle.seg_directory.proofs.Exports.{then_does}
 use Rattle.seg_column_format.specs.SchemaColumns.{HoldColumns}

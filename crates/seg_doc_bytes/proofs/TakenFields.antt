@@ -1,14 +1,14 @@
--- Pairs of a stored document that are passed.
-use Rattle.std.proofs.Common.{◌≡◌, ℕ, suc, Bool, true, false, cond, List, [], ◌∷◌, length, Option, Some, None, inl, inr, arith, refl, sym, ap, ◌∙◌, subst, if◌then◌else◌}
-use Rattle.std.specs.Prelude.{nat_eq, not, is_some}
+-- Pairs of a stored document whose field was taken.
+use Rattle.std.proofs.Common.{◌≡◌, ℕ, Bool, true, false, cond, List, [], ◌∷◌, Option, Some, None, inl, inr, refl, sym, ap, ◌∙◌, subst, if◌then◌else◌}
+use Rattle.std.specs.Prelude.{nat_eq, not}
 use Rattle.std.specs.Int.{w64, cast_signed}
 use Rattle.std.proofs.lemmas.Bool.{false≢true, not-true}
-use Rattle.std.proofs.lemmas.Bool.Decides.{eqb_tells, nat_tests}
+use Rattle.std.proofs.lemmas.Bool.Decides.{eqb_tells}
 use Rattle.seg_tokens.specs.declared.token.Token.{Token}
 use Rattle.seg_values.specs.Tree.{Leaf, null, text, pre_tokenized, unsigned, signed, boolean, date, facet, byte_string, ip, Tree, leaf, array, object, trees_from, members_from}
-use Rattle.seg_doc_bytes.specs.PassedBytes.{Passed, Passes, begins_with}
+use Rattle.seg_doc_bytes.specs.PassedBytes.{begins_with}
 use Rattle.seg_doc_bytes.specs.FrontReaders.{Reader, then_read, made_of, counted_at, front, sized_at, text_at, small_at, number_at}
-use Rattle.seg_doc_bytes.specs.StoredDocument.{is_top_leaf, is_top, most_levels_read, pair_at, all_read, stored_document_of}
+use Rattle.seg_doc_bytes.specs.StoredDocument.{is_top_leaf, is_top, most_levels_read, pair_at}
 use Rattle.seg_doc_bytes.specs.StoredTree.{token_at, pre_tokenized_at, bit_at, leaf_at, member_at, tree_at, stored_tree_at}
 
 -- what is read, if anything is, passes a test
@@ -87,10 +87,6 @@ pair_front old left field s other =
     ap (λ o. then_read o (λ f rest. then_read (stored_tree_at most_levels_read rest) (λ t after. paired f t after))) s
     ∙ paired_all field (stored_tree_at most_levels_read left) (top left other)
 
-pub pair_passed : {B : Type 0} (old left new : List ℕ) (field : ℕ) (r : Option B) → pair_at old ≡ made_of (λ t. (field, t)) (stored_tree_at most_levels_read left) → Passes (stored_tree_at most_levels_read) left new r → Passes pair_at old new r
-pair_passed old left new field (Some done) is p = record { value = (field, p.value); is = is ∙ ap (made_of (λ t. (field, t))) p.is }
-pair_passed old left new field None is p = is ∙ ap (made_of (λ t. (field, t))) p
-
 -- ---- a text with its tokens by itself
 
 abbrev not_top : Leaf → Bool
@@ -118,20 +114,3 @@ refused_tree field (tag ∷ bytes) is = elim (eqb_tells tag 2) [
 
 pub pair_refused : (old left : List ℕ) (field : ℕ) → small_at old ≡ Some (field, left) → begins_with 2 left ≡ true → pair_at old ≡ None
 pair_refused old left field s is = ap (λ o. then_read o (λ f rest. then_read (stored_tree_at most_levels_read rest) (λ t after. paired f t after))) s ∙ refused_tree field left is
-
--- ---- a whole document
-
-pub not_none : (n : ℕ) → nat_eq (suc n) 0 ≡ false
-not_none n = grind (arith, nat_tests)
-
-rest_empty : (pairs : List (ℕ × Tree)) (left : List ℕ) → nat_eq (length left) 0 ≡ is_some (all_read (Some (pairs, left)))
-rest_empty pairs [] = refl
-rest_empty pairs (b ∷ left) = not_none (length left)
-
-pub document_passed : (bytes left : List ℕ) (empty : Bool) → Passed (counted_at pair_at) bytes left → empty ≡ nat_eq (length left) 0 → empty ≡ is_some (stored_document_of bytes)
-unfolding stored_document_of
-document_passed bytes left empty p is = is ∙ rest_empty p.value left ∙ ap (λ o. is_some (all_read o)) (sym p.is)
-
-pub document_refused : (bytes : List ℕ) → counted_at pair_at bytes ≡ None → false ≡ is_some (stored_document_of bytes)
-unfolding stored_document_of
-document_refused bytes none = ap (λ o. is_some (all_read o)) (sym none)
