@@ -22,9 +22,9 @@ use Rattle.seg_build.specs.declared.memory_segment.MemorySegment.{MemorySegment}
 use Rattle.seg_build.specs.FieldTerms.{FieldTerms, fields_of}
 use Rattle.seg_build.specs.WriterContents.{Kept}
 use Rattle.seg_build.specs.StoredBlocks.{HasBlocks}
-use Rattle.seg_build.specs.SegmentWriters.{SegmentWriting, AddsNone, IsKeptOf, IsFull, Tells, Writes}
+use Rattle.seg_build.specs.SegmentWriters.{SegmentWriting, Adds, AddsNone, IsKeptOf, IsFull, Tells, Writes}
 use Rattle.seg_build.specs.PostingsTotals.{TotalsAreCounts}
-use Rattle.seg_batches.specs.IndexedBatches.{AreOfBatch, HasAdditions, IsNotTaken, IsTaken, IsUnused}
+use Rattle.seg_batches.specs.IndexedBatches.{AreOfBatch, HasAdditions, IsUnused}
 use Rattle.seg_batches.proofs.BatchSteps.{mixed_refused}
 use Rattle.seg_batches.proofs.TokenCounts.{counts_told}
 use Rattle.seg_batches.proofs.RefusedBatches.{refused_from, refused_at}
@@ -41,6 +41,12 @@ started_unused schema given size analyzer analyzers id (Ok w) same none of sized
 started_unused schema given size analyzer analyzers id (Err e) same none of sized = tt
 
 -- ---- one more operation
+
+-- it is taken at a place: a document that it adds comes after the others, and a delete changes nothing
+abbrev IsTaken : Analyzer → ℕ → Operation → SegmentWriting → SegmentWriting → Type 0
+IsTaken analyzer at (add document) old new = Adds analyzer document at old new
+IsTaken analyzer at (delete term) old new = new ≡ old
+IsTaken analyzer at (delete_all terms) old new = new ≡ old
 
 same_place : (first : ℕ) (operations : List Operation) (operation : Operation)
     → addition_stamps (first + 1) operations ++ addition_stamps (first + 1 + length operations) (operation ∷ []) ≡ addition_stamps (first + 1) operations ++ addition_stamps (first + suc (length operations)) (operation ∷ [])
@@ -104,41 +110,34 @@ module _ (schema : Schema) (analyzer : Analyzer) (first : ℕ) (operations : Lis
       (subst (λ ss. Writes analyzer (additions so_far ++ additions (operation ∷ [])) ss new) (sym stamps)
       (taken_after analyzer (first + i) old new operation (additions so_far) (addition_stamps first so_far) h has)))
 
-  -- ---- one that is not taken
+  -- ---- a document that is not added
   module _ (few : length (additions operations) < 2 ^ 31)
       (so_far : refused_from schema analyzer (first + i) (drop i operations) ≡ refused_from schema analyzer first operations)
       (old new : SegmentWriting) (same : old.schema ≡ schema)
-      (has : HasAdditions analyzer first (take i operations) old) where
-    module _ (document : Document) (at : slice_get operations i ≡ Some (add document)) where
-      refusal_tells : (e : TantivyError) → Tells old.schema analyzer document (first + i) e
-          → batch_error schema analyzer first operations ≡ Some e
-      refusal_tells e h =
-          refused_at schema analyzer first operations i (add document) at e (ap (λ s. at_place (first + i) (document_refusal s analyzer document)) (sym same) ∙ h) few so_far
+      (has : HasAdditions analyzer first (take i operations) old)
+      (document : Document) (at : slice_get operations i ≡ Some (add document)) where
+    refusal_tells : (e : TantivyError) → Tells old.schema analyzer document (first + i) e
+        → batch_error schema analyzer first operations ≡ Some e
+    refusal_tells e h =
+        refused_at schema analyzer first operations i (add document) at e (ap (λ s. at_place (first + i) (document_refusal s analyzer document)) (sym same) ∙ h) few so_far
 
-      not_added : (e : TantivyError) → AddsNone analyzer document (first + i) old new e
-          → (batch_error schema analyzer first operations ≡ Some e) ⊎ (e ≡ OutOfMemory)
-      not_added SystemError h =
-          absurd (subst (λ o. IsSomeAnd o (IsKeptOf old.schema analyzer old.block_size (additions (take i operations)) (addition_stamps first (take i operations)))) h.0 has)
-      not_added OutOfMemory h = inr refl
-      not_added (InvalidArgument argument.Documents) h = absurd (full old.kept has h.0)
-        where
-          full : (kept : Option Kept)
-              → IsSomeAnd kept (IsKeptOf old.schema analyzer old.block_size (additions (take i operations)) (addition_stamps first (take i operations)))
-              → IsSomeAnd kept IsFull → ⊥
-          full None w f = f
-          full (Some kept) w f =
-              let many : length kept.stamps ≡ length (additions (take i operations)) = ap length w.stamped ∙ w.each in
-              omega (arith, many, f, few, one_of operations i document at)
-      not_added (SchemaError cause) h = inl (refusal_tells _ h.1)
-      not_added (InvalidArgument cause) h = inl (refusal_tells _ h.1)
-      not_added e h = inl (refusal_tells e h.1)
-
-    pub not_taken : (operation : Operation) (e : TantivyError) → slice_get operations i ≡ Some operation
-        → IsNotTaken analyzer (first + i) operation old new e
+    pub not_added : (e : TantivyError) → AddsNone analyzer document (first + i) old new e
         → (batch_error schema analyzer first operations ≡ Some e) ⊎ (e ≡ OutOfMemory)
-    not_taken (add document) e at h = not_added document at e h
-    not_taken (delete term) e at h = absurd h
-    not_taken (delete_all terms) e at h = absurd h
+    not_added SystemError h =
+        absurd (subst (λ o. IsSomeAnd o (IsKeptOf old.schema analyzer old.block_size (additions (take i operations)) (addition_stamps first (take i operations)))) h.0 has)
+    not_added OutOfMemory h = inr refl
+    not_added (InvalidArgument argument.Documents) h = absurd (full old.kept has h.0)
+      where
+        full : (kept : Option Kept)
+            → IsSomeAnd kept (IsKeptOf old.schema analyzer old.block_size (additions (take i operations)) (addition_stamps first (take i operations)))
+            → IsSomeAnd kept IsFull → ⊥
+        full None w f = f
+        full (Some kept) w f =
+            let many : length kept.stamps ≡ length (additions (take i operations)) = ap length w.stamped ∙ w.each in
+            omega (arith, many, f, few, one_of operations i document at)
+    not_added (SchemaError cause) h = inl (refusal_tells _ h.1)
+    not_added (InvalidArgument cause) h = inl (refusal_tells _ h.1)
+    not_added e h = inl (refusal_tells e h.1)
 
 -- ---- all of them
 

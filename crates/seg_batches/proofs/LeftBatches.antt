@@ -1,5 +1,5 @@
 -- What the deletes that wait leave of a batch.
-use Rattle.std.proofs.Common.{◌≡◌, ℕ, zero, suc, ◌+◌, Bool, true, false, List, [], ◌∷◌, ◌++◌, length, map, take, drop, replicate, Some, None, Option, refl, sym, ap, subst, ◌∙◌, append_assoc, take-append-drop}
+use Rattle.std.proofs.Common.{◌≡◌, ℕ, zero, suc, ◌+◌, ◌<◌, ◌^◌, Bool, true, false, List, [], ◌∷◌, ◌++◌, length, map, take, drop, replicate, Some, None, Option, refl, sym, ap, subst, ◌∙◌, append_assoc, take-append-drop, arith}
 use Rattle.std.specs.Prelude.{is_some, option_copied}
 use Rattle.std.specs.Borrow.{Bor}
 use Rattle.std.specs.List.{AllByRecursion, range_with_len, slice_get}
@@ -10,6 +10,7 @@ use Rattle.seg_common.specs.declared.name.SegmentComponent.{SegmentComponent}
 use Rattle.seg_common.proofs.Lists.{drop-slice_get_none}
 use Rattle.seg_values.specs.Tree.{Document}
 use Rattle.seg_meta.specs.Metas.{SegmentParts}
+use Rattle.seg_build.specs.SegmentWriters.{SegmentWriting}
 use Rattle.seg_model.specs.Columns.{Columns, columns}
 use Rattle.seg_model.specs.Contents.{Contents, full_reading, reading_with}
 use Rattle.seg_model.specs.Fields.{Schema, Analyzer}
@@ -31,7 +32,7 @@ use Rattle.seg_open.specs.declared.open_error.OpenError.TheVariants.{Damaged}
 use Rattle.seg_segment.specs.declared.segment_files.SegmentFiles.{SegmentFiles}
 use Rattle.seg_batches.specs.AppliedDeletes.{IsTold, left_by, term_names}
 use Rattle.seg_batches.specs.Laws.{as_operations, AppliedDeletesLeaveTheAlive}
-use Rattle.seg_batches.specs.IndexedBatches.{AreOfBatch}
+use Rattle.seg_batches.specs.IndexedBatches.{AreOfBatch, IsUnused}
 use Rattle.seg_batches.specs.BatchSegments.{AreWhole}
 use Rattle.seg_batches.specs.DeleteCursors.{passed_below}
 use Rattle.seg_batches.specs.declared.term_target.TermTarget.{TermTarget}
@@ -64,21 +65,33 @@ read_of schema analyzer documents contents read = by (columns schema analyzer do
         let same = sym (same_Some (reading_with schema analyzer documents cs) contents e) in
         (ap (λ (c : Contents). c.documents) same, ap (λ (c : Contents). c.terms) same)
 
-pub of_given : (given schema : Schema) (size block_size : ℕ) (by analyzer : Analyzer) (first : ℕ) (operations : List Operation) (files : SegmentFiles) (stamps : List ℕ)
-    → given ≡ schema → size ≡ block_size → by ≡ analyzer → AreOfBatch given size by first operations files stamps
+-- those of a batch, by what its writer was started with
+pub of_started : (writer : SegmentWriting) (schema : Schema) (block_size : ℕ) (by analyzer : Analyzer) (first : ℕ) (operations : List Operation) (files : SegmentFiles) (stamps : List ℕ)
+    → IsUnused schema block_size analyzer writer → by ≡ analyzer
+    → AreOfBatch writer.schema writer.block_size by first operations files stamps
     → AreOfBatch schema block_size analyzer first operations files stamps
-of_given given schema size block_size by analyzer first operations files stamps same_schema same_size same of =
-    subst (λ s. AreOfBatch s block_size analyzer first operations files stamps) same_schema
-    (subst (λ n. AreOfBatch given n analyzer first operations files stamps) same_size
-    (subst (λ a. AreOfBatch given size a first operations files stamps) same of))
+of_started writer schema block_size by analyzer first operations files stamps unused same of =
+    subst (λ s. AreOfBatch s block_size analyzer first operations files stamps) unused.of_schema
+    (subst (λ n. AreOfBatch writer.schema n analyzer first operations files stamps) unused.of_size
+    (subst (λ a. AreOfBatch writer.schema writer.block_size a first operations files stamps) same of))
 
-pub made_whole : (schema : Schema) (analyzer : Analyzer) (documents : List Document) (files : SegmentFiles) (n : ℕ)
-    → StandFor schema analyzer documents files → length documents ≡ n → AreWhole schema files n
-made_whole schema analyzer documents files n made counted = record {
-  contents = made.contents;
-  spelled = made.spelled;
-  counted = (read_of schema analyzer documents made.contents made.read).0 ∙ counted;
-}
+-- they are whole, and have few documents
+module _ (schema : Schema) (block_size : ℕ) (analyzer : Analyzer) (first : ℕ) (operations : List Operation)
+    (files : SegmentFiles) (stamps : List ℕ)
+    (are : AreOfBatch schema block_size analyzer first operations files stamps) where
+  stamps_counted : length stamps ≡ length (additions operations)
+  stamps_counted = ap length are.stamped ∙ length-additions first operations
+
+  pub batch_few : length stamps < 2 ^ 31
+  batch_few = omega (arith, stamps_counted, are.few)
+
+  pub batch_whole : AreWhole schema files (length stamps)
+  batch_whole = record {
+    contents = are.stand.contents;
+    spelled = are.stand.spelled;
+    counted =
+        (read_of schema analyzer (additions operations) are.stand.contents are.stand.read).0 ∙ sym stamps_counted;
+  }
 
 -- and so they are for a segment of this schema and number of documents
 pub whole_for : (segment : SegmentParts) (schema : Schema) (files : SegmentFiles) (n : ℕ)

@@ -16,6 +16,13 @@ operation_at [] i x lt is = absurd (omega (arith, lt))
 operation_at (y ∷ ys) zero x lt is = ap (λ (u : UserOperation Document). Some (operation_of u)) (sym is)
 operation_at (y ∷ ys) (suc i) x lt is = operation_at ys i x (omega (arith, lt)) is
 
+-- and where it is told which that is
+pub told_at : (operations : List (UserOperation Document)) (i : ℕ) (x told : UserOperation Document)
+    → i < length operations → x ≡ get_or operations i x → x ≡ told
+    → slice_get (map operation_of operations) i ≡ Some (operation_of told)
+told_at operations i x told lt is same =
+    operation_at operations i x lt is ∙ ap (λ (u : UserOperation Document). Some (operation_of u)) same
+
 -- ---- the deletes among them
 
 deletes-first : (at : ℕ) (operation : Operation) (rest : List Operation)

@@ -1,6 +1,5 @@
 -- Segments that are made of the documents of a batch.
 use Rattle.std.specs.Prelude.{ℕ, ◌≡◌, ◌<◌, ◌^◌, ◌++◌, List, length, Bool, Option, Result, IfOk}
-use Rattle.seg_values.specs.declared.error.TantivyError.{TantivyError}
 use Rattle.seg_model.specs.Contents.{Contents}
 use Rattle.seg_model.specs.Fields.{Schema, Analyzer}
 use Rattle.seg_model.specs.Operations.{Operation, additions, alive_after}
@@ -12,7 +11,6 @@ use Rattle.seg_segment.specs.SpelledContents.{Spell}
 use Rattle.seg_segment.specs.DocumentsOfFiles.{StandFor}
 use Rattle.seg_segment.specs.TokenTotals.{TellTotals}
 use Rattle.seg_segment.specs.declared.segment_files.SegmentFiles.{SegmentFiles}
-use Rattle.seg_model.specs.CheckAnswers.{Tells}
 use Rattle.seg_batches.specs.AppliedDeletes.{IsTold}
 use Rattle.seg_batches.specs.BatchTotals.{documents_total}
 use Rattle.seg_batches.specs.Laws.{as_operations}
@@ -55,9 +53,3 @@ pub record IsSegmentOf (schema : Schema) (block_size : ℕ) (analyzer : Analyzer
   pub left : (before after : List Operation) → length before ≡ first
       → as_operations waiting ≡ stamped_deletes 0 (before ++ (operations ++ after))
       → IsTold documents (alive_after schema analyzer operations after) told
-
--- the segment of a batch is made, unless there is a cause, which is told
-pub record MakesSegment {T : Type 0} (cause : Option TantivyError) (first : ℕ) (result : Result T TantivyError)
-    (old new : Queue TermTarget) (cursor : ℕ) : Type 0 where
-  pub tells : Tells cause result
-  pub earlier : PassesEarlier first old new cursor

@@ -6,7 +6,7 @@ use Rattle.seg_model.specs.Fields.{Schema, Analyzer}
 use Rattle.seg_model.specs.Operations.{Operation, add, delete, delete_all, additions}
 use Rattle.seg_model.specs.Stamps.{addition_stamps}
 use Rattle.seg_build.specs.StoredBlocks.{HasBlocks}
-use Rattle.seg_build.specs.SegmentWriters.{SegmentWriting, Adds, AddsNone, IsOfSame, Writes}
+use Rattle.seg_build.specs.SegmentWriters.{SegmentWriting, Writes}
 use Rattle.seg_segment.specs.DocumentsOfFiles.{StandFor}
 use Rattle.seg_segment.specs.TokenTotals.{TellTotals}
 use Rattle.seg_segment.specs.declared.segment_files.SegmentFiles.{SegmentFiles}
@@ -23,26 +23,6 @@ is_addition (delete_all terms) = false
 abbrev pub HasAdditions : Analyzer → ℕ → List Operation → SegmentWriting → Type 0
 HasAdditions analyzer first operations writer =
     Writes analyzer (additions operations) (addition_stamps first operations) writer
-
--- an operation at a place is taken: a document that it adds comes after the others, and a delete changes nothing
-abbrev pub IsTaken : Analyzer → ℕ → Operation → SegmentWriting → SegmentWriting → Type 0
-IsTaken analyzer at (add document) old new = Adds analyzer document at old new
-IsTaken analyzer at (delete term) old new = new ≡ old
-IsTaken analyzer at (delete_all terms) old new = new ≡ old
-
--- and one is not, for a cause
-abbrev pub IsNotTaken : Analyzer → ℕ → Operation → SegmentWriting → SegmentWriting → TantivyError → Type 0
-IsNotTaken analyzer at (add document) old new e = AddsNone analyzer document at old new e
-IsNotTaken analyzer at (delete term) old new e = ⊥
-IsNotTaken analyzer at (delete_all terms) old new e = ⊥
-
--- an operation at a place is taken or not, by a writer with the same analyzers and of the same segment
-pub record Takes {T Z : Type 0} (tokens_of : Z → Analyzer) (at : ℕ) (operation : Operation)
-    (result : Result T TantivyError) (old new : Z × SegmentWriting) : Type 0 where
-  pub ok : OnOk result (IsTaken (tokens_of old.0) at operation old.1 new.1)
-  pub err : IfErr result (IsNotTaken (tokens_of old.0) at operation old.1 new.1)
-  pub analyzers : new.0 ≡ old.0
-  pub same : IsOfSame old.1 new.1
 
 -- a writer of no documents, whose store will have blocks of this size
 pub record IsUnused (schema : Schema) (block_size : ℕ) (analyzer : Analyzer) (writer : SegmentWriting) : Type 0 where

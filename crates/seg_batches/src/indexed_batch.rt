@@ -4,7 +4,7 @@ ghost use Rattle.seg_model.specs.Operations.{additions};
 ghost use Rattle.seg_build.specs.SegmentWriters.{Writes};
 ghost use Rattle.seg_check.specs.UserOperations.{operation_of};
 ghost use Rattle.seg_check.specs.WriterStart.{start_refusal};
-ghost use Rattle.seg_batches.specs.IndexedBatches.{AddsAll, AreOfBatch, IsUnused, Takes, is_addition};
+ghost use Rattle.seg_batches.specs.IndexedBatches.{AddsAll, AreOfBatch, IsUnused, is_addition};
 ghost use Rattle.seg_model.specs.Refusals.{batch_error};
 ghost use Rattle.seg_model.specs.CheckAnswers.{Tells};
 
@@ -63,7 +63,7 @@ fn is_addition(operation: &UserOperation<TantivyDocument>) -> bool
     }
 }
 
-/// Adds the documents of operations, up to the first that is refused.
+/// Adds the documents of operations, up to the first that is refused; an error tells the place of its operation.
 fn add_operations<Z: Analyzers>(
     first: Opstamp,
     operations: &[UserOperation<TantivyDocument>],
@@ -75,26 +75,15 @@ fn add_operations<Z: Analyzers>(
     ensures { AddsAll Z.tokens_of first (map operation_of operations.now) result writer.old writer.new }
 {
     for (at, operation) in operations.iter().enumerate() {
-        match add_operation(first + at as u64, operation, writer) {
-            Ok(()) => {}
-            Err(e) => return Err(e),
+        match operation {
+            UserOperation::Add(document) => match writer.add_ref(first + at as u64, document) {
+                Ok(()) => {}
+                Err(e) => return Err(e),
+            },
+            UserOperation::Delete(_) => {}
         }
     }
     Ok(())
-}
-
-/// Adds the document of an addition, and passes over a delete; an error tells the place of the operation.
-fn add_operation<Z: Analyzers>(
-    place: Opstamp,
-    operation: &UserOperation<TantivyDocument>,
-    writer: &mut SegmentWriter<'_, Z>,
-) -> TResult<()>
-    ensures { Takes Z.tokens_of place (operation_of operation.now) result writer.old writer.new }
-{
-    match operation {
-        UserOperation::Add(document) => writer.add_ref(place, document),
-        UserOperation::Delete(_) => Ok(()),
-    }
 }
 
 /// A writer of no documents.

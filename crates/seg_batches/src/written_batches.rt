@@ -13,7 +13,8 @@ ghost use Rattle.seg_batches.specs.WrittenSegments.{LacksSome, alive_of, segment
 ghost use Rattle.seg_batches.specs.DeleteCursors.{passed_below};
 ghost use Rattle.seg_batches.specs.BatchWriteSteps.{MakesBatches, WritesBatch, batch_between, batch_cause, batch_causes};
 
-use crate::made_batch::{MadeBatch, make_batch};
+use crate::indexed_batch::{index_batch, new_writer};
+use crate::made_batch::MadeBatch;
 use crate::term_target::TermTarget;
 use crate::waiting_deletes::delete_queue;
 use crate::written_segment::WrittenSegment;
@@ -103,6 +104,9 @@ fn keep(segment: WrittenSegment, written: &mut Vec<WrittenSegment>) -> Result<()
 
 /// Writes the segment of the batch of the operations from `first` up to `end`. The cursor is after the deletes of
 /// batches before it.
+///
+/// Refusals come in the order of a writer that is started, the number of documents, the first document that does not
+/// pass its check, and `Numbers` of all documents, of those too that deletes remove.
 fn write_batch<Z: Analyzers, W: Directory>(
     alloc: Global,
     schema: &Schema,
@@ -131,19 +135,24 @@ fn write_batch<Z: Analyzers, W: Directory>(
         (W.state directory.new) }
 {
     let batch = &operations[first..end];
-    let made = match make_batch(
+    let writer = match new_writer(alloc, schema, settings, analyzers, id) {
+        Ok(writer) => writer,
+        Err(e) => return Err(e),
+    };
+    let segment = match index_batch(first as Opstamp, batch, writer) {
+        Ok(segment) => segment,
+        Err(e) => return Err(e),
+    };
+    let Ok(made) = MadeBatch::of_segment(
         alloc,
         schema,
-        settings,
-        analyzers,
         id,
         first as Opstamp,
-        batch,
+        segment,
         queue,
         cursor,
-    ) {
-        Ok(made) => made,
-        Err(e) => return Err(e),
+    ) else {
+        return Err(TantivyError::OutOfMemory);
     };
     write_made(alloc, id, made, directory)
 }

@@ -1,11 +1,15 @@
-use Rattle.std.proofs.Common.{◌+◌, map, subst, ◌∙◌, arith}
+use Rattle.std.proofs.Common.{◌+◌, map, take, refl, sym, ap, subst, ◌∙◌, arith}
 use Rattle.std.proofs.lemmas.List.{length-map}
+use Rattle.seg_model.specs.Operations.{add, delete}
+use Rattle.seg_build.specs.SegmentWriters.{Adds, AddsNone}
 use Rattle.seg_check.specs.UserOperations.{operation_of}
-use Rattle.seg_batches.specs.IndexedBatches.{IsTaken, IsNotTaken}
-use Rattle.seg_batches.proofs.AddedDocuments.{all_added, one_more, not_taken, taken_unrefused}
+use Rattle.seg_check.specs.declared.user_operation.UserOperation.TheVariants.{Add, Delete}
+use Rattle.seg_batches.specs.IndexedBatches.{HasAdditions}
+use Rattle.seg_batches.proofs.AddedDocuments.{all_added, not_added, one_more, taken_unrefused}
 use Rattle.seg_batches.proofs.RefusedBatches.{still_none}
-use Rattle.seg_batches.proofs.OperationTurns.{operation_at}
+use Rattle.seg_batches.proofs.OperationTurns.{told_at}
 use Rattle.seg_batches.proofs.indexed_batch.add_operations.Goals as goal
+use Rattle.seg_batches.proofs.indexed_batch.add_operations.Goals.{in-Add+in-Ok, in-Delete}
 
 pub returns-in-Err : goal.returns-in-Err
 returns-in-Err g c =
@@ -13,15 +17,18 @@ returns-in-Err g c =
     let item = c.index-operations-at in
     let operations = map operation_of c.args.operations.now in
     let i = c.loop-at.at in
-    let at = operation_at c.args.operations.now i item.result c.loop-at-test.true item.is in
+    let document = c.in-Add.document in
+    let at = told_at c.args.operations.now i item.result (Add document) c.loop-at-test.true item.is c.in-Add.is in
     let so_far = c.loop-at.invariant in
+    let old = c.loop-at.writer.1 in
+    let new = c.add_ref.new.self.1 in
     record {
       added = tt;
       analyzers = c.in-Err.ensures.analyzers ∙ so_far.analyzers;
       schema = c.in-Err.ensures.same.schema ∙ so_far.schema;
       block_size = c.in-Err.ensures.same.block_size ∙ so_far.block_size;
-      err = not_taken c.args.writer.now.1.schema (F c.args.writer.now.0) c.args.first operations i c.requires.few so_far.rest c.loop-at.writer.1 c.add_operation.new.writer.1 so_far.schema so_far.has (operation_of item.result) c.in-Err.e at
-          (subst (λ z. IsNotTaken (F z) (c.args.first + i) (operation_of item.result) c.loop-at.writer.1 c.add_operation.new.writer.1 c.in-Err.e) so_far.analyzers c.in-Err.ensures.err);
+      err = not_added c.args.writer.now.1.schema (F c.args.writer.now.0) c.args.first operations i c.requires.few so_far.rest old new so_far.schema so_far.has document at c.in-Err.e
+          (subst (λ z. AddsNone (F z) document (c.args.first + i) old new c.in-Err.e) so_far.analyzers c.in-Err.ensures.err);
     }
 
 pub loop-at-preserved : goal.loop-at-preserved
@@ -29,23 +36,41 @@ loop-at-preserved g c =
     let F = g.Z.Analyzers.tokens_of in
     let schema = c.args.writer.now.1.schema in
     let analyzer = F c.args.writer.now.0 in
+    let first = c.args.first in
     let item = c.index-operations-at in
-    let operation = operation_of item.result in
     let operations = map operation_of c.args.operations.now in
     let i = c.loop-at.at in
-    let at = operation_at c.args.operations.now i item.result c.loop-at-test.true item.is in
     let so_far = c.loop-at.invariant in
     let old = c.loop-at.writer.1 in
-    let new = c.add_operation.new.writer.1 in
-    let taken = subst (λ z. IsTaken (F z) (c.args.first + i) operation old new) so_far.analyzers c.in-Ok.ensures.ok in
-    record {
-      analyzers = c.in-Ok.ensures.analyzers ∙ so_far.analyzers;
-      schema = c.in-Ok.ensures.same.schema ∙ so_far.schema;
-      block_size = c.in-Ok.ensures.same.block_size ∙ so_far.block_size;
-      has = one_more schema analyzer c.args.first operations i operation old new at so_far.has taken;
-      rest =
-          still_none schema analyzer c.args.first operations i operation at (taken_unrefused analyzer (c.args.first + i) old new schema operation so_far.schema taken) so_far.rest;
-    }
+    elim c.match-operation.branch [
+      | in-Add+in-Ok w ↦
+          let document = w.in-Add.document in
+          let new = w.add_ref.new.self.1 in
+          let at = told_at c.args.operations.now i item.result (Add document) c.loop-at-test.true item.is w.in-Add.is in
+          let taken = subst (λ z. Adds (F z) document (first + i) old new) so_far.analyzers w.in-Ok.ensures.ok in
+          record {
+            analyzers = ap (λ v. v.0) w.writer-is ∙ w.in-Ok.ensures.analyzers ∙ so_far.analyzers;
+            schema = ap (λ v. v.1.schema) w.writer-is ∙ w.in-Ok.ensures.same.schema ∙ so_far.schema;
+            block_size = ap (λ v. v.1.block_size) w.writer-is ∙ w.in-Ok.ensures.same.block_size ∙ so_far.block_size;
+            has =
+                subst (λ v. HasAdditions analyzer first (take (i + 1) operations) v.1) (sym w.writer-is)
+                (one_more schema analyzer first operations i (add document) old new at so_far.has taken);
+            rest =
+                still_none schema analyzer first operations i (add document) at (taken_unrefused analyzer (first + i) old new schema (add document) so_far.schema taken) so_far.rest;
+          }
+      | in-Delete w ↦
+          let term = w.in-Delete.field-0 in
+          let at = told_at c.args.operations.now i item.result (Delete term) c.loop-at-test.true item.is w.in-Delete.is in
+          record {
+            analyzers = ap (λ v. v.0) w.writer-is ∙ so_far.analyzers;
+            schema = ap (λ v. v.1.schema) w.writer-is ∙ so_far.schema;
+            block_size = ap (λ v. v.1.block_size) w.writer-is ∙ so_far.block_size;
+            has =
+                subst (λ v. HasAdditions analyzer first (take (i + 1) operations) v.1) (sym w.writer-is)
+                (one_more schema analyzer first operations i (delete term) old old at so_far.has refl);
+            rest = still_none schema analyzer first operations i (delete term) at refl so_far.rest;
+          }
+    ]
 
 pub returns : goal.returns
 returns g c = record {
