@@ -21,7 +21,7 @@ use Rattle.seg_check.specs.AdmittedInputs.{Fits}
 use Rattle.seg_open.specs.Answers.{seen_as}
 use Rattle.seg_segment.specs.Laws.{HoldsOneContents}
 use Rattle.seg_index_build.specs.BuildOutcomes.{BuildComesTo, EndsBuilding, StopsBuilding}
-use Rattle.seg_index_build.specs.DirectoryCalls.{BeginsIndexes, BuildsIndexes, FillsWork, WritesIndexes, WritesWork, merge_of}
+use Rattle.seg_index_build.specs.DirectoryCalls.{BeginsIndexes, BuildsIndexes, WritesIndexes, WritesWork, merge_of}
 use Rattle.seg_index_build.specs.IndexFiles.{output_id, work_ids, work_listed, work_meta, work_segments}
 use Rattle.seg_index_build.specs.MergeAnswers.{IsMergedAs}
 use Rattle.seg_index_build.specs.MergePlans.{IsMergePlan, planned}

@@ -1,6 +1,5 @@
 -- What is known of the error with which the writing of both indexes ends.
-use Rattle.std.proofs.Common.{◌≡◌, ◌≢◌, ◌≤◌, ◌<◌, ◌^◌, ◌∙◌, ℕ, true, List, IsTrue, map, length, None, Some, Result, Err, refl, sym, ap, subst, inl, inr, arith}
-use Rattle.std.specs.Prelude.{◌⊎◌}
+use Rattle.std.proofs.Common.{◌≡◌, ◌≢◌, ◌≤◌, ◌<◌, ◌^◌, ◌∙◌, ℕ, true, List, IsTrue, map, length, None, Some, Err, refl, sym, ap, subst, inl, inr, arith}
 use Rattle.std.specs.FinMap.{len}
 use Rattle.seg_common.specs.FaultCounts.{Rose}
 use Rattle.seg_values.specs.declared.error.ArgumentCause.TheVariants.{Documents, Numbers}
@@ -21,14 +20,13 @@ use Rattle.seg_open.proofs.Exports.{segments_rose, segments_so}
 use Rattle.seg_batches.proofs.Exports.{refusal_weaker}
 use Rattle.seg_check.specs.AdmittedInputs.{Fits}
 use Rattle.seg_model.specs.Refusals.{IfRefusal, IsRefusal, batches_error, build_refusal}
-use Rattle.seg_segment.proofs.Exports.{rose_before, failing, same_error}
-use Rattle.seg_check.proofs.Exports.{first_is_refusal}
-use Rattle.seg_index_build.specs.BuildOutcomes.{AreEmpty, CanBeBuilt, IsBuildError, IsWhyUntold}
-use Rattle.seg_index_build.specs.DirectoryCalls.{BuildsIndexes, merge_of}
+use Rattle.seg_segment.proofs.Exports.{rose_before, failing}
+use Rattle.seg_index_build.specs.BuildOutcomes.{AreEmpty, CanBeBuilt, IsBuildError, IsWhyUntold, RoseIn}
+use Rattle.seg_index_build.specs.DirectoryCalls.{merge_of}
 use Rattle.seg_index_build.specs.IndexFiles.{work_ids}
 use Rattle.seg_index_build.specs.MergedSegments.{AreMerged, MergeInput, first_schema, joined, live_asked}
-use Rattle.seg_index_build.specs.TwoDirectories.{Directories, stops, goes_on}
-use Rattle.seg_index_build.proofs.WritingExits.{Exits, Filled, exits, in_listing, in_output_listing, in_beginning, in_filling, in_merging}
+use Rattle.seg_index_build.specs.TwoDirectories.{Directories}
+use Rattle.seg_index_build.proofs.WritingExits.{Exits, Filled, in_listing, in_output_listing, in_beginning, in_filling, in_merging}
 use Rattle.seg_index_build.proofs.FilledIndex.{filled_counts, filled_fresh, filled_refused, filled_so}
 use Rattle.seg_index_build.proofs.ToldDirectories.{tells-still}
 use Rattle.seg_index_build.proofs.MergeErrors.{argument_refuses, filling_so, merge_fresh, merge_refused, merge_undamaged, too_many_told}
@@ -43,29 +41,24 @@ use Rattle.seg_index_build.proofs.WriteErrors.{IsWriteError, calls_so, so_before
 
 -- ---- kinds of errors
 
+-- an error of writing: a fault that was counted is one of the two directories
+of_writing : (e : TantivyError) (m n : ℕ) (a b : Directories) → (Rose m n → RoseIn a b) → IsWriteError e m n → IsBuildError e a b
+of_writing OpenReadError m n a b rose so = rose so
+of_writing OpenWriteError m n a b rose so = rose so
+of_writing IoError m n a b rose so = rose so
+of_writing SystemError m n a b rose so = so
+of_writing FieldNotFound m n a b rose so = so
+of_writing (SchemaError cause) m n a b rose so = tt
+of_writing (InvalidArgument cause) m n a b rose so = tt
+of_writing IndexAlreadyExists m n a b rose so = tt
+of_writing (DataCorruption name) m n a b rose so = tt
+of_writing OutOfMemory m n a b rose so = tt
+
 of_work : (e : TantivyError) (a b : Directories) → IsWriteError e a.work.faults b.work.faults → IsBuildError e a b
-of_work OpenReadError a b so = inl so
-of_work OpenWriteError a b so = inl so
-of_work IoError a b so = inl so
-of_work SystemError a b so = so
-of_work FieldNotFound a b so = so
-of_work (SchemaError cause) a b so = tt
-of_work (InvalidArgument cause) a b so = tt
-of_work IndexAlreadyExists a b so = tt
-of_work (DataCorruption name) a b so = tt
-of_work OutOfMemory a b so = tt
+of_work e a b so = of_writing e a.work.faults b.work.faults a b (λ rose. inl rose) so
 
 of_output : (e : TantivyError) (a b : Directories) → IsWriteError e a.output.faults b.output.faults → IsBuildError e a b
-of_output OpenReadError a b so = inr so
-of_output OpenWriteError a b so = inr so
-of_output IoError a b so = inr so
-of_output SystemError a b so = so
-of_output FieldNotFound a b so = so
-of_output (SchemaError cause) a b so = tt
-of_output (InvalidArgument cause) a b so = tt
-of_output IndexAlreadyExists a b so = tt
-of_output (DataCorruption name) a b so = tt
-of_output OutOfMemory a b so = tt
+of_output e a b so = of_writing e a.output.faults b.output.faults a b (λ rose. inr rose) so
 
 pub of_refusal : (e : TantivyError) (a b : Directories) → IsRefusal e → IsBuildError e a b
 of_refusal OpenReadError a b refusal = absurd refusal
@@ -231,18 +224,6 @@ module _ (analyzer : Analyzer) (input : Input) where
           (λ opened o was few none. in_numbers n b.work o opened filled was few none) h
 
 module _ (known : Known) (analyzer : Analyzer) (input : Input) where
-  -- an error comes of memory, a refusal, damage, or a call that failed, and then a fault was counted
-  pub build_error : {T : Type 0} (e : TantivyError) (a b : Directories) → BuildsIndexes {T = T} known analyzer input (Err e) a b
-      → IsBuildError e a b
-  build_error {T = T} e a b (stops d is (inl first, same)) =
-      subst (λ (x : TantivyError). IsBuildError x a b) (sym (same_error T e d is))
-      (of_refusal d a b (first_is_refusal known analyzer input d first))
-  build_error {T = T} e a b (stops d is (inr starved, same)) =
-      subst (λ (x : TantivyError). IsBuildError x a b) (sym (same_error T e d is)) (of_memory d a b starved)
-  build_error {T = T} e a b (goes_on u m (none, same) writes) =
-      subst (λ (s : Directories). IsBuildError e s b) same
-      (error_of_exit analyzer input e m b (exits analyzer input T e m b writes))
-
   module _ (fits : Fits analyzer input) (settings : settings_fit input.settings ≡ true)
       (none : input_refusal known analyzer input ≡ None) (e : TantivyError) (a b : Directories) (exit : Exits analyzer input e a b) where
     pub stopped_fresh : AreEmpty a → e ≢ IndexAlreadyExists

@@ -1,5 +1,5 @@
 -- What a crash may leave of the output of a build.
-use Rattle.std.proofs.Common.{◌≡◌, ◌<◌, ◌^◌, ◌∙◌, ◌⊎◌, inl, inr, ℕ, List, [], ◌∷◌, length, map, IsTrue, None, Some, Result, Ok, refl, sym, ap, subst}
+use Rattle.std.proofs.Common.{◌≡◌, ◌<◌, ◌^◌, ◌∙◌, inl, inr, length, map, IsTrue, Some, Result, Ok, sym, ap, subst}
 use Rattle.std.specs.FinMap.{empty, get-empty}
 use Rattle.seg_segment.proofs.Exports.{failing}
 use Rattle.seg_common.specs.FileNameKeys.{name_cmp}
@@ -29,7 +29,7 @@ use Rattle.seg_index_build.specs.DirectoryCalls.{BeginsIndexes, FillsWork, Write
 use Rattle.seg_index_build.specs.IndexFiles.{IsOutputIndexOf, merged_meta, output_id, output_meta, work_ids}
 use Rattle.seg_index_build.specs.MergeAnswers.{IsMergeOf}
 use Rattle.seg_index_build.specs.MergedSegments.{MergesLive, first_schema, joined}
-use Rattle.seg_index_build.specs.TwoDirectories.{Directories, both, goes_on, stops}
+use Rattle.seg_index_build.specs.TwoDirectories.{Directories, goes_on, stops}
 use Rattle.seg_index_build.proofs.WritingExits.{Filled, filled_so_far}
 use Rattle.seg_index_build.proofs.MergeOnDisk.{merge_rests, merge_turns}
 use Rattle.seg_index_build.proofs.WritingPlaces.{are_readings, told_filled}

@@ -15,6 +15,7 @@ use Rattle.seg_index_build.specs.TwoDirectories.{Directories}
 use Rattle.seg_index_build.proofs.BuildErrors.{complete_of, of_memory, of_refusal}
 use Rattle.seg_index_build.proofs.BuildOnDisk.{not_begun_leaves}
 use Rattle.seg_index_build.proofs.BuildRefusals.{caused_refusal, refusal_undamaged}
+use Rattle.seg_index_build.proofs.KeptDirectories.{stays}
 
 -- ---- before a directory is called
 
@@ -59,7 +60,7 @@ not_begun known analyzer input e state cause =
           (caused_refusal known analyzer input e cause);
       fresh = λ empty. not_there e kind;
       whole = λ told. undamaged e kind;
-      batch_refused = unless_none (batches_error input.schema analyzer 0 input.cuts input.operations) _ refl;
+      batch_refused = unless_none (batches_error input.schema analyzer 0 input.cuts input.operations) _ (stays state.output);
       errors = begun_error e state kind;
       complete = λ can.
           complete_of known analyzer input e state state (begun_error e state kind)

@@ -1,6 +1,6 @@
 -- The errors of building: which of them tell a refusal or damage, and which refusals there are.
 use Rattle.std.proofs.Common.{◌≡◌, ◌≤◌, ◌<◌, ◌^◌, ℕ, List, [], ◌∷◌, length, Bool, true, false, Option, None, Some, refl, sym, ap, subst, ◌∙◌, inl, inr}
-use Rattle.std.specs.Prelude.{◌⊎◌, is_none, is_some}
+use Rattle.std.specs.Prelude.{◌⊎◌, is_none, is_some, nat_lt}
 use Rattle.std.specs.List.{AllByRecursion, enumerate_from, list_all}
 use Rattle.std.specs.Option.{option_or}
 use Rattle.std.proofs.lemmas.Bool.{false≢true, and_parts, le-ltb, lt-ltb}
@@ -17,7 +17,7 @@ use Rattle.seg_model.specs.Columns.{Columns, columns}
 use Rattle.seg_model.specs.Contents.{full_reading, reading_with}
 use Rattle.seg_model.specs.Fields.{Schema, Analyzer}
 use Rattle.seg_model.specs.Input.{Input, input_batches, input_survivors}
-use Rattle.seg_model.specs.Operations.{Operation, Batch, additions, batches_from}
+use Rattle.seg_model.specs.Operations.{Operation, additions, batches_from}
 use Rattle.seg_model.specs.Refusals.{cut_from, count_refusal, numbers_refusal, batch_refusal, build_refusal, IfRefusal, IsRefusal, batches_error}
 use Rattle.seg_model.specs.ValidInputs.{Known, FitsSegment, shape_refusal, schema_refusal, input_refusal, names_fit, settings_fit}
 use Rattle.seg_check.specs.WriterStart.{start_refusal}
@@ -164,30 +164,34 @@ module _ (known : Known) (analyzer : Analyzer) (input : Input) where
       → build_refusal known analyzer input ≡ Some e
   by_batches e none h = past_input none ∙ ap after_input h
 
-  -- too many survivors, after both
-  pub by_survivors : IsWritten analyzer input → input_refusal known analyzer input ≡ None
-      → 2 ^ 31 ≤ length (input_survivors analyzer input)
-      → build_refusal known analyzer input ≡ Some (InvalidArgument argument.Documents)
-  by_survivors w none many =
+  -- what is told of the survivors, after both
+  past_batches : IsWritten analyzer input → input_refusal known analyzer input ≡ None → (few : Bool)
+      → nat_lt (length (input_survivors analyzer input)) (2 ^ 31) ≡ few
+      → build_refusal known analyzer input
+      ≡ option_or (unless few (InvalidArgument argument.Documents))
+      (numbers_refusal input.schema analyzer (input_survivors analyzer input))
+  past_batches w none few is =
       past_input none
       ∙ ap after_input (batches_unrefused w)
       ∙ ap
       (λ b. option_or (unless b (InvalidArgument argument.Documents))
       (numbers_refusal input.schema analyzer (input_survivors analyzer input)))
-      (le-ltb (length (input_survivors analyzer input)) (2 ^ 31) many)
+      is
 
-  -- and after that survivors without columns
+  -- they are too many
+  pub by_survivors : IsWritten analyzer input → input_refusal known analyzer input ≡ None
+      → 2 ^ 31 ≤ length (input_survivors analyzer input)
+      → build_refusal known analyzer input ≡ Some (InvalidArgument argument.Documents)
+  by_survivors w none many =
+      past_batches w none false (le-ltb (length (input_survivors analyzer input)) (2 ^ 31) many)
+
+  -- or have no columns
   pub by_numbers : IsWritten analyzer input → input_refusal known analyzer input ≡ None
       → length (input_survivors analyzer input) < 2 ^ 31
       → full_reading input.schema analyzer (input_survivors analyzer input) ≡ None
       → build_refusal known analyzer input ≡ Some (InvalidArgument argument.Numbers)
   by_numbers w none few mixed =
-      past_input none
-      ∙ ap after_input (batches_unrefused w)
-      ∙ ap
-      (λ b. option_or (unless b (InvalidArgument argument.Documents))
-      (numbers_refusal input.schema analyzer (input_survivors analyzer input)))
-      (lt-ltb (length (input_survivors analyzer input)) (2 ^ 31) few)
+      past_batches w none true (lt-ltb (length (input_survivors analyzer input)) (2 ^ 31) few)
       ∙ ap (λ (o : Option Columns). unless (is_some o) (InvalidArgument argument.Numbers))
       (none_map (reading_with input.schema analyzer (input_survivors analyzer input))
       (columns input.schema analyzer (input_survivors analyzer input)) mixed)

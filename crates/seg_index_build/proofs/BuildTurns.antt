@@ -1,5 +1,5 @@
 -- Turns that write both indexes, put together.
-use Rattle.std.proofs.Common.{◌≡◌, Result, Ok, Err, refl, ap}
+use Rattle.std.proofs.Common.{Result, Ok, Err, refl, ap}
 use Rattle.seg_segment.proofs.Exports.{failing, same_error}
 use Rattle.seg_values.specs.declared.error.TantivyError.{TantivyError}
 use Rattle.seg_model.specs.Fields.{Analyzer}

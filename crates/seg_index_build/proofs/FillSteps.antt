@@ -82,7 +82,7 @@ part-not-meta id which is = cc
 part-not-alive : (id : ℕ) (which : SegmentComponent) (other stamp : ℕ) → Part id which ≢ Alive other stamp
 part-not-alive id which other stamp is = cc
 
-alive-not-meta : (id stamp : ℕ) → Alive id stamp ≢ Meta
+pub alive-not-meta : (id stamp : ℕ) → Alive id stamp ≢ Meta
 alive-not-meta id stamp is = cc
 
 alive-not-part : (id stamp other : ℕ) (which : SegmentComponent) → Alive id stamp ≢ Part other which
@@ -98,7 +98,8 @@ none_alive id which (s ∷ segments) = by s.deletes (none_alive id which segment
     by None rest = rest
     by (Some d) rest = (part-not-alive id which s.id d.stamp, rest)
 
-none_of_six : (id stamp : ℕ) (ids : List ℕ) → AllByRecursion (λ name. Alive id stamp ≢ name) (six_files ids)
+-- none of the six files of segments is an alive file
+pub none_of_six : (id stamp : ℕ) (ids : List ℕ) → AllByRecursion (λ name. Alive id stamp ≢ name) (six_files ids)
 none_of_six id stamp [] = tt
 none_of_six id stamp (other ∷ ids) = (
   alive-not-part id stamp other component.FieldNorms,

@@ -7,13 +7,12 @@ use Rattle.std.proofs.lemmas.List.{length-append}
 use Rattle.std.proofs.lemmas.List.Sums.{count_by-le-length, length-filter}
 use Rattle.seg_bits.specs.BitSets.{member_count}
 use Rattle.seg_meta.specs.Metas.{deleted}
-use Rattle.seg_model.specs.Contents.{Contents, full_reading}
+use Rattle.seg_model.specs.Contents.{full_reading}
 use Rattle.seg_model.specs.Fields.{Schema, Analyzer}
 use Rattle.seg_model.specs.Input.{Filter, Input, input_batches, input_survivors}
 use Rattle.seg_model.specs.Laws.{AreReadingsOf, JoiningIsInvisible}
 use Rattle.seg_model.specs.Operations.{Batch, both_marked, filtered, filtered_by, kept, live}
 use Rattle.seg_model.specs.ValidInputs.{filter_fits, filters_fit}
-use Rattle.seg_model.proofs.Exports.{was_read}
 use Rattle.seg_open.specs.OpenSegment.{OpenSegment, kept_count, part_of}
 use Rattle.seg_open.proofs.Exports.{count-more}
 use Rattle.seg_index_build.specs.MergedSegments.{joined}
@@ -109,14 +108,6 @@ survivors_joined law stamp analyzer input opened fit h =
     (live_survive stamp input.filters (input_batches analyzer input) fit
     (batches_counted input.schema analyzer 0 input.cuts input.operations)))
     ∙ sym (law input.schema analyzer (live_batches stamp input.filters (input_batches analyzer input)) (map part_of opened) h)
-
--- and it counts them
-pub counts_survivors : (analyzer : Analyzer) (input : Input) (contents : Contents)
-    → full_reading input.schema analyzer (input_survivors analyzer input) ≡ Some contents
-    → contents.documents ≡ length (input_survivors analyzer input)
-counts_survivors analyzer input contents h =
-    ap (λ (c : Contents). c.documents)
-    (was_read input.schema analyzer (input_survivors analyzer input) contents h).is_reading
 
 -- ---- how many are kept
 

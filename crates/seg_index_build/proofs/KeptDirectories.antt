@@ -1,18 +1,19 @@
 -- Which files both directories keep while an index is built, whatever it comes to.
-use Rattle.std.proofs.Common.{◌≡◌, ◌≢◌, ◌∙◌, ℕ, List, [], ◌∷◌, ◌++◌, length, Option, None, Some, Result, Ok, Err, refl, sym, ap, subst, inl, inr}
+use Rattle.std.proofs.Common.{◌≡◌, ◌≢◌, ◌∙◌, ℕ, List, [], ◌∷◌, ◌++◌, length, Option, None, Some, Result, Ok, Err, IsTrue, refl, sym, ap, subst}
 use Rattle.std.specs.Prelude.{IfSome}
-use Rattle.std.specs.FinMap.{get}
+use Rattle.std.specs.FinMap.{get, same_map}
 use Rattle.std.specs.List.{AllByRecursion}
+use Rattle.seg_common.specs.FileNameKeys.{name_cmp_exact, name_cmp_total}
 use Rattle.seg_common.specs.declared.name.FileName.{FileName}
 use Rattle.seg_common.specs.declared.name.FileName.TheVariants.{Meta}
 use Rattle.seg_common.proofs.Lists.{all_back, all_both, all_front}
 use Rattle.seg_values.specs.declared.error.TantivyError.{TantivyError}
-use Rattle.seg_values.specs.declared.error.TantivyError.TheVariants.{OutOfMemory}
-use Rattle.seg_directory.specs.Calls.{listed}
+use Rattle.seg_directory.proofs.Exports.{keeps_disk, turns_none}
+use Rattle.seg_directory.specs.DiskChanges.{KeepsDisk}
+use Rattle.seg_directory.specs.FileDisks.{FileDisk}
 use Rattle.seg_directory.specs.Files.{NamedFiles}
-use Rattle.seg_directory.specs.StepSequences.{GoesOn}
 use Rattle.seg_directory.specs.DirectoryStates.{DirectoryState}
-use Rattle.seg_directory.specs.DirectorySteps.{CallBreaks, Step, StepBreaks, StepGoes, Works, failed, has_files}
+use Rattle.seg_directory.specs.DirectorySteps.{Step, Works}
 use Rattle.seg_meta.specs.IndexOfFiles as index
 use Rattle.seg_meta.specs.IndexOfFiles.{Deletes}
 use Rattle.seg_model.specs.Fields.{Analyzer}
@@ -31,7 +32,7 @@ use Rattle.seg_batches.specs.WrittenSegments.{WrittenSegment, alive_file, alive_
 use Rattle.seg_index_build.specs.DirectoryCalls.{BeginsIndexes, BuildsIndexes, FillsWork, WritesIndexes, lists_none, merge_of}
 use Rattle.seg_index_build.specs.IndexFiles.{work_ids, work_listed, work_segments}
 use Rattle.seg_index_build.specs.MergedSegments.{FillsOutput, MergeInput, MergesLive, fills, first_schema, live_asked, mixes, starves}
-use Rattle.seg_index_build.specs.OtherFiles.{KeepsOthers, merged_files, output_files, work_files}
+use Rattle.seg_index_build.specs.OtherFiles.{KeepsOthers, Stays, merged_files, output_files, work_files}
 use Rattle.seg_index_build.specs.TwoDirectories.{Directories, goes_on, stops}
 use Rattle.seg_index_build.specs.IndexWriteSteps.{begin_steps}
 use Rattle.seg_index_build.specs.WorkIndexSteps.{WritesSegments, after_batches, finish_steps, in_batches, listing_meta}
@@ -44,7 +45,7 @@ module _ (names : List FileName) where
   pub same_keeps : (a b : DirectoryState) → b ≡ a → KeepsAllBut names a.files b.files
   same_keeps a b same other all = ap (λ (s : DirectoryState). get s.files other) same
 
-  then_keeps : (a b c : NamedFiles) → KeepsAllBut names a b → KeepsAllBut names b c → KeepsAllBut names a c
+  pub then_keeps : (a b c : NamedFiles) → KeepsAllBut names a b → KeepsAllBut names b c → KeepsAllBut names a c
   then_keeps a b c first next other all = next other all ∙ first other all
 
   files_keep : (a b : NamedFiles) → b ≡ a → KeepsAllBut names a b
@@ -56,11 +57,11 @@ module _ (m : MergeInput) where
   abbrev made : List FileName
   made = merged_files m.id
 
-  begin_keeps : {T : Type 0} (r : Result T TantivyError) (a b : DirectoryState)
+  pub begin_keeps : {T : Type 0} (r : Result T TantivyError) (a b : DirectoryState)
       → Works (begin_steps m.settings (first_schema m.segments)) r a b → KeepsAllBut made a.files b.files
   begin_keeps r a b works other all = keeps_untouched works other (all.0, tt)
 
-  fill_keeps : {T : Type 0} (opened : List OpenSegment) (r : Result T TantivyError) (a b : DirectoryState)
+  pub fill_keeps : {T : Type 0} (opened : List OpenSegment) (r : Result T TantivyError) (a b : DirectoryState)
       → FillsOutput m opened r a b → KeepsAllBut made a.files b.files
   fill_keeps opened r a b (starves is same) = same_keeps made a b same
   fill_keeps opened r a b (mixes is none same) = same_keeps made a b same
@@ -135,19 +136,17 @@ module _ (P : FileName → Type 0) where
 
 -- ---- listings
 
-breaks_keep : (e : TantivyError) (a b : DirectoryState) → CallBreaks (listed 0) e a b → b.files ≡ a.files
-breaks_keep e a b (failed d is fails) = fails.others
-breaks_keep e a b (has_files n is some error goes) = goes.others
-
-on_same : {T : Type 0} (r : Result T TantivyError) (a b : DirectoryState)
-    → GoesOn StepGoes StepBreaks OutOfMemory lists_none r a b → b.files ≡ a.files
-on_same r a b (inl w) = ap (λ (s : DirectoryState). s.files) w.2.0 ∙ w.1.others
-on_same (Ok x) a b (inr no_error) = absurd no_error
-on_same (Err e) a b (inr (inl starved)) = ap (λ (s : DirectoryState). s.files) starved.1
-on_same (Err e) a b (inr (inr breaks)) = breaks_keep e a b breaks
-
 listing_same : {T : Type 0} {r : Result T TantivyError} {a b : DirectoryState} → Works lists_none r a b → b.files ≡ a.files
-listing_same works = on_same _ _ _ works.on
+listing_same {a = a} {b = b} works =
+    same_map name_cmp_total name_cmp_exact b.files a.files (λ name. keeps_untouched works name tt)
+
+listing_keeps : {T : Type 0} (r : Result T TantivyError) (a m b : DirectoryState) → m ≡ a → IsTrue a.disk.told
+    → Works lists_none r m b → KeepsDisk a.disk b.disk
+listing_keeps r a m b same told works =
+    keeps_disk lists_none r (tt, tt) told (subst (λ (s : DirectoryState). Works lists_none r s b) same works)
+
+pub stays : (s : DirectoryState) → Stays s s
+stays s = record { files = refl; disk = λ told. turns_none {P = λ (d : FileDisk). d ≡ s.disk.now} {a = s} refl refl }
 
 -- ---- both indexes
 
@@ -184,6 +183,21 @@ module _ (analyzer : Analyzer) (input : Input) where
   begins_same r a b (goes_on u m h (stops e is k)) = listing_same k.0 ∙ ap (λ (s : DirectoryState). s.files) h.1
   begins_same r a b (goes_on u m h (goes_on v n k l)) =
       ap (λ (s : DirectoryState). s.files) l.1 ∙ listing_same k.0 ∙ ap (λ (s : DirectoryState). s.files) h.1
+
+  begins_disk : {T : Type 0} (r : Result T TantivyError) (a b : Directories)
+      → BeginsIndexes input.settings input.schema r a b → IsTrue a.output.disk.told → KeepsDisk a.output.disk b.output.disk
+  begins_disk r a b (stops e is h) told = turns_none {P = λ (d : FileDisk). d ≡ a.output.disk.now} h.1 refl
+  begins_disk r a b (goes_on u m h (stops e is k)) told =
+      let failing : Result (Unit {0}) TantivyError = Err e in
+      listing_keeps failing a.output m.output b.output h.1 told k.0
+  begins_disk r a b (goes_on u m h (goes_on v n k l)) told =
+      let done : Result (Unit {0}) TantivyError = Ok v in
+      subst (λ (s : DirectoryState). KeepsDisk a.output.disk s.disk) (sym l.1)
+      (listing_keeps done a.output m.output n.output h.1 told k.0)
+
+  begins_stay : {T : Type 0} (r : Result T TantivyError) (a b : Directories)
+      → BeginsIndexes input.settings input.schema r a b → Stays a.output b.output
+  begins_stay r a b begins = record { files = begins_same r a b begins; disk = begins_disk r a b begins }
 
   begins_keep : {T : Type 0} (r : Result T TantivyError) (a b : Directories)
       → BeginsIndexes input.settings input.schema r a b → KeepsAllBut made_in_work a.work.files b.work.files
@@ -240,23 +254,23 @@ module _ (analyzer : Analyzer) (input : Input) where
       → KeepsAllBut (work_files analyzer input) a.work.files b.work.files
   work_kept r a b writes = (writes_keep r a b writes).work
 
-  -- where a batch is refused, so do all of the output
+  -- where a batch is refused, the output is as it was
   pub refused_leaves : Fits analyzer input → (T : Type 0) (e : TantivyError) (a b : Directories)
       → WritesIndexes {T = T} analyzer input (Err e) a b
-      → IfSome (batches_error input.schema analyzer 0 input.cuts input.operations) (λ _. b.output.files ≡ a.output.files)
+      → IfSome (batches_error input.schema analyzer 0 input.cuts input.operations) (λ _. Stays a.output b.output)
   refused_leaves fits T e a b writes = by (batches_error input.schema analyzer 0 input.cuts input.operations) (λ x is. stay x is writes)
     where
       stay : (x : TantivyError) → batches_error input.schema analyzer 0 input.cuts input.operations ≡ Some x
-          → WritesIndexes {T = T} analyzer input (Err e) a b → b.output.files ≡ a.output.files
-      stay x is (stops d at h) = let failing : Result (Unit {0}) TantivyError = Err d in begins_same failing a b h
+          → WritesIndexes {T = T} analyzer input (Err e) a b → Stays a.output b.output
+      stay x is (stops d at h) = let failing : Result (Unit {0}) TantivyError = Err d in begins_stay failing a b h
       stay x is (goes_on u m h (stops d at k)) =
           let done : Result (Unit {0}) TantivyError = Ok u in
-          ap (λ (s : DirectoryState). s.files) k.1 ∙ begins_same done a m h
+          subst (λ (s : DirectoryState). Stays a.output s) (sym k.1) (begins_stay done a m h)
       stay x is (goes_on u m h (goes_on v n k merges)) =
           absurd (cc (sym is ∙ filled_unrefused input.settings input.schema analyzer (work_ids input.ids) input.cuts input.operations
           (many analyzer input fits) v m.work n.work k.0))
 
-      by : (o : Option TantivyError) → ((x : TantivyError) → o ≡ Some x → b.output.files ≡ a.output.files)
-          → IfSome o (λ _. b.output.files ≡ a.output.files)
+      by : (o : Option TantivyError) → ((x : TantivyError) → o ≡ Some x → Stays a.output b.output)
+          → IfSome o (λ _. Stays a.output b.output)
       by None h = tt
       by (Some x) h = h x refl

@@ -41,7 +41,6 @@ mod TakenParts
 mod OpeningAnswers
 mod FillingAnswers
 mod ReadTotals
-mod ErrorExits
 mod SegmentIds
 mod JoinedSurvivors
 mod WorkReadings

@@ -1,7 +1,6 @@
 -- What is known where segments are merged.
-use Rattle.std.proofs.Common.{◌≡◌, ◌∙◌, ℕ, List, [], ◌∷◌, IsTrue, Option, Some, Ok, Err, sym, ap, subst, true}
+use Rattle.std.proofs.Common.{◌≡◌, ◌∙◌, ℕ, List, [], ◌∷◌, IsTrue, Option, Some, Ok, sym, ap, subst, true}
 use Rattle.std.specs.Prelude.{IsSomeAnd}
-use Rattle.seg_values.specs.declared.error.TantivyError.{TantivyError}
 use Rattle.seg_directory.proofs.Exports.{all_went}
 use Rattle.seg_directory.specs.Files.{NamedFiles}
 use Rattle.seg_directory.specs.DirectoryStates.{DirectoryState}
@@ -21,7 +20,7 @@ use Rattle.seg_index_build.specs.MergedSegments.{IsReadBack, MergeInput, first_s
 use Rattle.seg_index_build.specs.TwoDirectories.{Directories}
 use Rattle.seg_index_build.proofs.ToldDirectories.{tells-still}
 use Rattle.seg_index_build.proofs.MergeCounts.{opened_number}
-use Rattle.seg_index_build.proofs.MergeTurns.{Answered, MergeExits, Merged, Opens, at_beginning, at_counting, at_filling, at_opening}
+use Rattle.seg_index_build.proofs.MergeTurns.{Answered, Merged, Opens}
 use Rattle.seg_index_build.proofs.OutputSteps.{one_files, one_index}
 
 -- ---- what was opened
@@ -54,17 +53,9 @@ module _ (m : MergeInput) where
       (segments_held (live_asked m.segments m.filters) a b opened told h)
       (segments_totals (live_asked m.segments m.filters) a b opened told h)
 
-  -- ---- the work directory stays
-
+  -- and that stays
   pub opened_stays : (opened : List OpenSegment) (a b : DirectoryState) → Opens m (Ok opened) a b → b.files ≡ a.files
   opened_stays opened a b h = (segments_stay (live_asked m.segments m.filters) a b (Ok opened) h).files
-
-  pub exit_stays : (e : TantivyError) (a b : Directories) → MergeExits m e a b → b.work.files ≡ a.work.files
-  exit_stays e a b (at_beginning h stays) = ap (λ (s : DirectoryState). s.files) stays
-  exit_stays e a b (at_opening begins h) =
-      (segments_stay (live_asked m.segments m.filters) a.work b.work (Err e) h).files
-  exit_stays e a b (at_counting opened was counts) = opened_stays opened a.work b.work was.opens
-  exit_stays e a b (at_filling opened o was few h) = opened_stays opened a.work b.work was.opens
 
   -- ---- the output index
 
@@ -137,6 +128,3 @@ module _ (m : MergeInput) where
       whole =
           subst (λ (x : Meta). index.AreWhole segment_forms b.output.files x) (sym answer.counted) (answer_segments fit told);
     }
-
-    pub answer_stays : b.work.files ≡ a.work.files
-    answer_stays = opened_stays answer.opened a.work b.work answer.merged.was.opens

@@ -1,5 +1,5 @@
 -- What a merge of segments, or of indices, comes to, put together.
-use Rattle.std.proofs.Common.{◌≡◌, ◌<◌, ◌^◌, ℕ, List, Some, Result, Err, refl}
+use Rattle.std.proofs.Common.{◌<◌, ◌^◌, ℕ, List, Some, Result, Err, refl}
 use Rattle.seg_values.specs.declared.error.TantivyError.{TantivyError}
 use Rattle.seg_meta.specs.MetaBounds.{AreReadBack}
 use Rattle.seg_meta.specs.MetaMeaning.{meta_of}
@@ -12,9 +12,9 @@ use Rattle.seg_index_build.specs.OtherFiles.{merged_files}
 use Rattle.seg_index_build.specs.TwoDirectories.{Directories}
 use Rattle.seg_index_build.proofs.IndexMergeErrors.{said_complete, said_errors, said_fresh, said_undamaged}
 use Rattle.seg_index_build.proofs.IndexMergeOnDisk.{said_leaves, said_rests}
-use Rattle.seg_index_build.proofs.KeptDirectories.{merges_keep, same_keeps}
+use Rattle.seg_index_build.proofs.KeptDirectories.{merges_keep, merges_stay, same_keeps}
 use Rattle.seg_index_build.proofs.MergeOnDisk.{merge_leaves, merge_rests_so, refused_leaves}
-use Rattle.seg_index_build.proofs.MergeOutcomes.{merged_complete, merged_does, merged_error, merged_fresh, merged_index, merged_meta, merged_output, merged_refused, merged_stays, merged_undamaged, merged_whole, refused_complete, refused_does, refused_error, refused_fresh, refused_so, refused_undamaged}
+use Rattle.seg_index_build.proofs.MergeOutcomes.{merged_complete, merged_does, merged_error, merged_fresh, merged_index, merged_meta, merged_output, merged_refused, merged_undamaged, merged_whole, refused_complete, refused_does, refused_error, refused_fresh, refused_so, refused_undamaged}
 use Rattle.seg_index_build.proofs.MergeTurns.{unanswered}
 use Rattle.seg_index_build.proofs.MergedIndices.{said_index, said_meta, said_output, said_refused_so, said_stays, said_unlike, said_whole}
 
@@ -53,7 +53,7 @@ module _ (m : MergeInput) (merged : AreMerged m) (reads : AreReadBack m.settings
         index = λ told. merged_index m merged f r a b to told;
         output_meta = λ told. merged_output m merged f r a b to told;
         output_whole = λ told. merged_whole m merged f r a b to told;
-        work_stays = merged_stays m merged f r a b to;
+        work_stays = merges_stay m r a b (unanswered m f r a b to);
         others = merges_keep m r a b (unanswered m f r a b to);
         undamaged = λ told whole. merged_undamaged m merged f r a b to told whole;
         fresh = λ told none. merged_fresh m merged f r a b to told none;
@@ -67,6 +67,7 @@ pub indices_merge : (metas : List IndexMeta) (id : ℕ) → id < 2 ^ 128 → (r 
     → MergesIndices metas id (seen_as (λ (i : IndexMeta). meta_of i) r) a b → IndexMergeComesTo metas id r a b
 indices_merge metas id id_fits r a b does =
     let f = λ (i : IndexMeta). meta_of i in
+    let stay = said_stays metas id (seen_as f r) a b does in
     record {
       does = does;
       meta = said_meta f metas id a b r does;
@@ -76,7 +77,8 @@ indices_merge metas id id_fits r a b does =
       index = λ told. said_index f metas id a b r does told;
       output_meta = λ told. said_output f metas id a b r does told;
       output_whole = λ told. said_whole f metas id a b r does told;
-      sources_stay = said_stays metas id (seen_as f r) a b does;
+      sources_stay = stay.sources_stay;
+      others = stay.others;
       undamaged = λ told whole. said_undamaged f metas id a b r does told whole;
       fresh = λ told none. said_fresh f metas id a b r does told none;
       complete = λ can. said_complete f metas id a b r does can;

@@ -1,5 +1,5 @@
 -- With which errors the merge of segments ends.
-use Rattle.std.proofs.Common.{◌≡◌, ◌≢◌, ◌≤◌, ◌<◌, ◌^◌, ◌∙◌, ℕ, Bool, true, false, List, IsTrue, nat_lt, None, Some, Result, Ok, Err, refl, sym, ap, subst, inl, inr, arith}
+use Rattle.std.proofs.Common.{◌≡◌, ◌≢◌, ◌≤◌, ◌<◌, ◌^◌, ◌∙◌, ℕ, Bool, true, false, List, IsTrue, nat_lt, None, Some, Ok, Err, refl, sym, ap, subst, inl, inr, arith}
 use Rattle.std.specs.FinMap.{len}
 use Rattle.std.specs.Prelude.{◌⊎◌, is_some}
 use Rattle.std.proofs.lemmas.Bool.{false≢true, ltb-false}

@@ -1,20 +1,18 @@
 -- Segments that are asked for, and those of them that have a live document.
-use Rattle.std.proofs.Common.{◌≡◌, ◌∙◌, Bool, true, false, cond, List, [], ◌∷◌, Option, refl, sym, ap, subst}
+use Rattle.std.proofs.Common.{◌≡◌, ◌∙◌, Bool, true, false, cond, List, [], ◌∷◌, Option, refl, ap}
 use Rattle.std.specs.Prelude.{◌&&◌}
 use Rattle.std.specs.List.{AllByRecursion, filter}
 use Rattle.std.proofs.lemmas.Bool.{false≢true, and_parts}
 use Rattle.seg_directory.specs.Files.{NamedFiles}
 use Rattle.seg_meta.specs.IndexOfFiles as index
-use Rattle.seg_meta.specs.IndexOfFiles.{ListedSegment}
 use Rattle.seg_meta.specs.Metas.{SegmentParts}
-use Rattle.seg_model.specs.Fields.{Schema}
 use Rattle.seg_model.specs.Input.{Filter}
 use Rattle.seg_segment.specs.IndexForms.{segment_forms}
 use Rattle.seg_open.specs.OpeningSteps.{Asked, asked_of}
 use Rattle.seg_open.proofs.Exports.{Whole}
 use Rattle.seg_merger.specs.Merger.{all_fit, fits}
 use Rattle.seg_index_build.specs.MergeAnswers.{LiveAreWhole}
-use Rattle.seg_index_build.specs.MergedSegments.{AreMerged, MergeInput, first_schema, is_live, kept_filters, live_asked}
+use Rattle.seg_index_build.specs.MergedSegments.{is_live, kept_filters, live_asked}
 
 -- ---- lists
 

@@ -23,14 +23,13 @@ use Rattle.seg_meta.specs.SavableMetas.{empty_meta}
 use Rattle.seg_model.specs.Fields.{Schema}
 use Rattle.seg_model.specs.Input.{Settings}
 use Rattle.seg_segment.specs.IndexForms.{segment_forms}
-use Rattle.seg_segment.specs.FileContents.{Holds}
 use Rattle.seg_segment.specs.SegmentFiles.{HasFiles, KeepsAllBut, write_steps}
 use Rattle.seg_segment.specs.TokenTotals.{TellTotals}
 use Rattle.seg_segment.specs.declared.segment_files.SegmentFiles.{SegmentFiles}
 use Rattle.seg_segment.proofs.Exports.{are_made, failing}
 use Rattle.seg_open.specs.OpenSegment.{OpenSegment, kept_count}
 use Rattle.seg_merger.specs.JoinedTotals.{joined_total}
-use Rattle.seg_merger.specs.Merger.{AreJoinedFiles, too_many}
+use Rattle.seg_merger.specs.Merger.{AreJoinedFiles}
 use Rattle.seg_index_build.specs.FilesAfterCrash.{AreMergeBy, AreMergeOf, MayBeMerged, MayBeMergedBy}
 use Rattle.seg_index_build.specs.MergeAnswers.{AllHaveHeld}
 use Rattle.seg_index_build.specs.MergedSegments.{FillsOutput, MergeInput, MergesLive, fills, first_schema, live_asked, mixes, output_meta_of, starves}

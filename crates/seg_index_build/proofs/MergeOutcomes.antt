@@ -21,7 +21,7 @@ use Rattle.seg_index_build.specs.MergeAnswers.{CanBeMerged, IsMergeError, IsMerg
 use Rattle.seg_index_build.specs.MergedSegments.{AreMerged, AreOfOne, IsRefusal, MergeInput, MergesSegments, MergesTo, one_refusal, output_meta_of}
 use Rattle.seg_index_build.specs.TwoDirectories.{Directories, goes_on, stops}
 use Rattle.seg_index_build.proofs.MergeErrors.{merge_error, merge_fresh, merge_starved, merge_undamaged}
-use Rattle.seg_index_build.proofs.MergeContents.{answer_index, answer_merge, answer_stays, answer_whole, exit_stays}
+use Rattle.seg_index_build.proofs.MergeContents.{answer_index, answer_merge, answer_whole}
 use Rattle.seg_index_build.proofs.MergeTurns.{answered, merge_exits, unanswered}
 
 -- ---- refusals
@@ -134,11 +134,6 @@ module _ {T : Type 0} (m : MergeInput) (merged : AreMerged m) (f : T → Meta) w
       → IfOk r (λ x. index.index_of segment_forms b.output.files ≡ Some (f x))
   merged_output (Ok x) a b h told = answer_index m (f x) a b (answered m (f x) a b h) told
   merged_output (Err e) a b h told = tt
-
-  pub merged_stays : (r : Result T TantivyError) (a b : Directories) → MergesTo m (seen_as f r) a b
-      → b.work.files ≡ a.work.files
-  merged_stays (Ok x) a b h = answer_stays m (f x) a b (answered m (f x) a b h)
-  merged_stays (Err e) a b h = exit_stays m e a b (merge_exits m T e a b (unanswered m f (failing T e) a b h))
 
   pub merged_undamaged : (r : Result T TantivyError) (a b : Directories) → MergesTo m (seen_as f r) a b → IsTrue a.work.tells
       → LiveAreWhole a.work.files m.segments → IfErr r IsNoDamage

@@ -1,5 +1,5 @@
 -- The output of a merge, filled; and the turns of a merge, put together.
-use Rattle.std.proofs.Common.{◌≡◌, ◌≤◌, ◌<◌, ◌∙◌, ℕ, Bool, true, false, List, [], ◌∷◌, ◌++◌, map, length, drop, get_or, min, Option, None, Result, Ok, Err, refl, sym, ap, subst, arith}
+use Rattle.std.proofs.Common.{◌≡◌, ◌≤◌, ◌<◌, ◌∙◌, ℕ, Bool, true, false, List, [], ◌∷◌, ◌++◌, length, drop, get_or, min, Option, None, Result, Ok, Err, refl, sym, ap, subst, arith}
 use Rattle.std.specs.Prelude.{IfOk, nat_le}
 use Rattle.std.specs.List.{AllByRecursion, filter}
 use Rattle.std.proofs.lemmas.Bool.Decides.{nat_tests}
@@ -9,7 +9,7 @@ use Rattle.seg_common.proofs.Lists.{all_filtered}
 use Rattle.seg_values.specs.declared.error.ArgumentCause.TheVariants.{Filters, Numbers}
 use Rattle.seg_values.specs.declared.error.TantivyError.{TantivyError}
 use Rattle.seg_values.specs.declared.error.TantivyError.TheVariants.{InvalidArgument, OutOfMemory}
-use Rattle.seg_directory.proofs.Exports.{does_nothing, stops_before, then_does}
+use Rattle.seg_directory.proofs.Exports.{stops_before, then_does}
 use Rattle.seg_directory.specs.DirectoryStates.{DirectoryState}
 use Rattle.seg_directory.specs.DirectorySteps.{Works}
 use Rattle.seg_meta.specs.IndexOfFiles.{Meta}

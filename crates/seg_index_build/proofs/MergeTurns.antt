@@ -25,6 +25,11 @@ pub works_as : (S T : Type 0) (steps : List Step) (e : TantivyError) (a b : Dire
 works_as S T steps e a b works =
     subst (λ l. Works {T = T} l (Err e) a b) (append-nil steps) (stops_before [] works)
 
+-- an error is seen as itself
+pub seen_error : {T : Type 0} (f : T → Meta) (r : Result T TantivyError) (e : TantivyError) → seen_as f r ≡ Err e → r ≡ Err e
+seen_error f (Ok x) e is = absurd (cc is)
+seen_error {T = T} f (Err d) e is = ap (failing T) (same_error Meta d e is)
+
 module _ (m : MergeInput) where
   abbrev pub Begins : Result (Unit {0}) TantivyError → DirectoryState → DirectoryState → Type 0
   Begins end a b = Works (begin_steps m.settings (first_schema m.segments)) end a b
@@ -171,10 +176,6 @@ module _ (m : MergeInput) where
   seen_fills f opened (Ok x) a b (mixes is none same) = absurd (cc is)
   seen_fills f opened (Ok x) a b (fills files joins works) = fills files joins (answers works)
   seen_fills {T = T} f opened (Err e) a b h = fails_as Meta T opened e a b h
-
-  seen_error : {T : Type 0} (f : T → Meta) (r : Result T TantivyError) (e : TantivyError) → seen_as f r ≡ Err e → r ≡ Err e
-  seen_error f (Ok x) e is = absurd (cc is)
-  seen_error {T = T} f (Err d) e is = ap (failing T) (same_error Meta d e is)
 
   pub unanswered : {T : Type 0} (f : T → Meta) (r : Result T TantivyError) (a b : Directories)
       → MergesTo m (seen_as f r) a b → MergesLive m r a b

@@ -1,7 +1,7 @@
 -- What is known of the merge of indices, by what it answers.
 use Rattle.std.proofs.Common.{◌≡◌, ◌∙◌, ℕ, List, [], ◌∷◌, IsTrue, map, Option, None, Some, Result, Ok, Err, sym, ap, subst, inl, inr}
 use Rattle.std.specs.Prelude.{◌⊎◌, IfOk, IsSomeAnd}
-use Rattle.seg_segment.proofs.Exports.{failing, same_error}
+use Rattle.seg_segment.proofs.Exports.{failing}
 use Rattle.seg_values.specs.declared.error.TantivyError.{TantivyError}
 use Rattle.seg_values.specs.declared.error.TantivyError.TheVariants.{OutOfMemory}
 use Rattle.seg_directory.proofs.Exports.{all_went}
@@ -12,6 +12,7 @@ use Rattle.seg_meta.specs.IndexOfFiles.{Meta}
 use Rattle.seg_meta.specs.declared.index_meta.IndexMeta.{IndexMeta}
 use Rattle.seg_segment.specs.IndexForms.{segment_forms}
 use Rattle.seg_segment.specs.FileContents.{Holds}
+use Rattle.seg_segment.specs.SegmentFiles.{KeepsAllBut}
 use Rattle.seg_segment.specs.TokenTotals.{TellTotals}
 use Rattle.seg_segment.specs.declared.segment_files.SegmentFiles.{SegmentFiles}
 use Rattle.seg_open.specs.Answers.{seen_as}
@@ -21,18 +22,16 @@ use Rattle.seg_merger.specs.Merger.{AreJoinedFiles}
 use Rattle.seg_index_build.specs.MergedSegments.{FillsOutput, IsReadBack, IsRefusal as IsSegmentsRefusal, MergeInput, fills, first_schema, mixes, output_meta_of, starves as fill_starves}
 use Rattle.seg_index_build.specs.IndexWriteSteps.{fill_one_steps}
 use Rattle.seg_index_build.specs.MergeAnswers.{IsWholeIndex}
+use Rattle.seg_index_build.specs.OtherFiles.{merged_files}
+use Rattle.seg_index_build.proofs.KeptDirectories.{begin_keeps, fill_keeps, same_keeps, then_keeps}
 use Rattle.seg_index_build.proofs.OutputSteps.{one_files, one_index}
 use Rattle.seg_index_build.proofs.MergeOutcomes.{one_only, some_is}
+use Rattle.seg_index_build.proofs.MergeTurns.{seen_error}
 use Rattle.seg_index_build.proofs.MergeCounts.{stored_number}
 use Rattle.seg_index_build.specs.MergedIndices.{AreAlike, Begins, IsRefusal, IsUnlike, MergesAlike, MergesIndices, MergesSources, Places, alike, asked_of_index, filled, indices_input, merges, not_begun, not_few, not_opened, refuses, starves, unlike}
 use Rattle.seg_index_build.specs.IndexMergeAnswers.{IsMergeOfIndices}
 use Rattle.seg_index_build.specs.Sources.{AllTell, OpensSources, files_of}
 use Rattle.seg_index_build.proofs.OpenedSources.{sources_held, sources_stay as opening_stays, sources_stored}
-
--- an error is seen as itself
-pub seen_error : {T U : Type 0} (f : T → U) (r : Result T TantivyError) (e : TantivyError) → seen_as f r ≡ Err e → r ≡ Err e
-seen_error f (Ok x) e is = absurd (cc is)
-seen_error {T = T} {U = U} f (Err d) e is = ap (failing T) (same_error U d e is)
 
 -- ---- all went well
 
@@ -170,27 +169,46 @@ module _ {T : Type 0} (f : T → Meta) (indices : List IndexMeta) (id : ℕ) (a 
   said_whole (Ok x) h told = ok_whole indices id (f x) a b h told
   said_whole (Err e) h told = tt
 
--- ---- the sources stay
+-- ---- what stays of the files
+
+-- all of the sources, and of the output those that the merge doesn't make
+pub record Stay (id : ℕ) (a b : Places) : Type 0 where
+  pub sources_stay : files_of b.sources ≡ files_of a.sources
+  pub others : KeepsAllBut (merged_files id) a.output.files b.output.files
 
 module _ (indices : List IndexMeta) (id : ℕ) (r : Result Meta TantivyError) (a b : Places) where
-  abbrev Stay : Type 0
-  Stay = files_of b.sources ≡ files_of a.sources
+  same_stay : b ≡ a → Stay id a b
+  same_stay same = record {
+    sources_stay = ap (λ (p : Places). map (λ (s : DirectoryState). s.files) p.sources) same;
+    others = same_keeps (merged_files id) a.output b.output (ap (λ (p : Places). p.output) same);
+  }
 
-  same_stay : b ≡ a → Stay
-  same_stay same = ap (λ (p : Places). map (λ (s : DirectoryState). s.files) p.sources) same
+  begun_keeps : (end : Result (Unit {0}) TantivyError) (o : DirectoryState) → Begins (indices_input indices id) end a.output o
+      → KeepsAllBut (merged_files id) a.output.files o.files
+  begun_keeps end o begins = begin_keeps (indices_input indices id) end a.output o begins
 
-  merging_stays : MergesSources (indices_input indices id) (map asked_of_index indices) r a b → Stay
-  merging_stays (not_begun e is begins stay) = ap (map (λ (s : DirectoryState). s.files)) stay
-  merging_stays (not_opened e is begins opens) = opening_stays (map asked_of_index indices) (Err e) a.sources b.sources opens
-  merging_stays (not_few e opened is begins opens many) = opening_stays (map asked_of_index indices) (Ok opened) a.sources b.sources opens
-  merging_stays (filled opened begun begins opens few last) = opening_stays (map asked_of_index indices) (Ok opened) a.sources b.sources opens
+  opening_stay : (end : Result (List OpenSegment) TantivyError) → OpensSources (map asked_of_index indices) end a.sources b.sources
+      → KeepsAllBut (merged_files id) a.output.files b.output.files → Stay id a b
+  opening_stay end opens kept =
+      record { sources_stay = opening_stays (map asked_of_index indices) end a.sources b.sources opens; others = kept }
 
-  alike_stays : MergesAlike indices id r a b → Stay
+  merging_stays : MergesSources (indices_input indices id) (map asked_of_index indices) r a b → Stay id a b
+  merging_stays (not_begun e is begins stay) =
+      record { sources_stay = ap (map (λ (s : DirectoryState). s.files)) stay; others = begun_keeps (Err e) b.output begins }
+  merging_stays (not_opened e is begins opens) = opening_stay (Err e) opens (begun_keeps (Ok tt) b.output begins)
+  merging_stays (not_few e opened is begins opens many) =
+      opening_stay (Ok opened) opens (begun_keeps (Ok tt) b.output begins)
+  merging_stays (filled opened begun begins opens few last) =
+      opening_stay (Ok opened) opens
+      (then_keeps (merged_files id) a.output.files begun.files b.output.files (begun_keeps (Ok tt) begun begins)
+      (fill_keeps (indices_input indices id) opened r begun b.output last.fills))
+
+  alike_stays : MergesAlike indices id r a b → Stay id a b
   alike_stays (starves is same) = same_stay same
   alike_stays (refuses e why is same) = same_stay same
   alike_stays (merges why reads h) = merging_stays h
 
-  pub said_stays : MergesIndices indices id r a b → Stay
+  pub said_stays : MergesIndices indices id r a b → Stay id a b
   said_stays (unlike e why is same) = same_stay same
   said_stays (alike are h) = alike_stays h
 

@@ -1,5 +1,5 @@
 -- The metas of an output index are read as they are saved.
-use Rattle.std.proofs.Common.{◌≡◌, ◌<◌, ◌^◌, ◌∙◌, ℕ, List, [], ◌∷◌, ◌++◌, map, true, None, Some, refl, arith}
+use Rattle.std.proofs.Common.{◌≡◌, ◌<◌, ◌^◌, ℕ, List, [], ◌∷◌, ◌++◌, map, true, None, Some, refl, arith}
 use Rattle.std.specs.Prelude.{codes, nat_lt, IsUtf8}
 use Rattle.std.specs.List.{AllByRecursion, join_with_byte, list_all}
 use Rattle.std.proofs.lemmas.Bool.{and_parts}

@@ -1,39 +1,19 @@
 -- A segment of which nothing is deleted has no alive file.
-use Rattle.std.proofs.Common.{◌≡◌, ◌≢◌, ◌∙◌, ℕ, Bool, true, false, cond, List, [], ◌∷◌, ◌++◌, Option, None, Some, sym, ap, inl, inr}
+use Rattle.std.proofs.Common.{◌≡◌, ◌≢◌, ◌∙◌, ℕ, Bool, true, false, cond, List, [], ◌∷◌, ◌++◌, None, Some, sym, ap, inl, inr}
 use Rattle.std.specs.Prelude.{◌⊎◌, not}
 use Rattle.std.specs.FinMap.{get, len, empty_of_len, get-empty}
 use Rattle.std.specs.List.{AllByRecursion, count_by, list_all}
 use Rattle.std.proofs.lemmas.Bool.{false≢true}
 use Rattle.seg_common.specs.FileNameKeys.{name_cmp}
-use Rattle.seg_common.specs.declared.name.FileName.{FileName}
-use Rattle.seg_common.specs.declared.name.FileName.TheVariants.{Alive, Meta, Part}
-use Rattle.seg_common.specs.declared.name.SegmentComponent.{SegmentComponent}
+use Rattle.seg_common.specs.declared.name.FileName.TheVariants.{Alive, Meta}
 use Rattle.seg_common.proofs.Lists.{all_both, all_weaker}
 use Rattle.seg_directory.specs.Files.{NamedFiles}
 use Rattle.seg_meta.specs.IndexOfFiles.{Deletes}
-use Rattle.seg_segment.specs.SegmentFiles.{KeepsAllBut, segment_names}
+use Rattle.seg_segment.specs.SegmentFiles.{KeepsAllBut}
 use Rattle.seg_batches.specs.WrittenSegments.{WrittenSegment, alive_file, alive_files, all_listed, deletes_of, six_files}
 use Rattle.seg_index_build.specs.OtherFiles.{LacksAlive}
 use Rattle.seg_index_build.proofs.DistinctLists.{Apart, all_two}
-
-no_part : (id at other : ℕ) (which : SegmentComponent) → Alive id at ≢ Part other which
-no_part id at other which is = cc is
-
-no_meta : (id at : ℕ) → Alive id at ≢ Meta
-no_meta id at is = cc is
-
--- none of the six files of segments is an alive file
-no_six : (id at : ℕ) (ids : List ℕ) → AllByRecursion (λ name. Alive id at ≢ name) (six_files ids)
-no_six id at [] = tt
-no_six id at (other ∷ ids) =
-    all_both (λ name. Alive id at ≢ name) (segment_names other) (six_files ids) (
-      no_part id at other _,
-      (
-        no_part id at other _,
-        (no_part id at other _, (no_part id at other _, (no_part id at other _, (no_part id at other _, tt)))),
-      ),
-    )
-    (no_six id at ids)
+use Rattle.seg_index_build.proofs.FillSteps.{alive-not-meta, none_of_six}
 
 -- nothing of a segment is deleted, or it has another id
 abbrev IsOther : ℕ → WrittenSegment → Type 0
@@ -81,8 +61,8 @@ module _ (stamp : ℕ) where
           → (list_all (λ b. b) s.alive ≡ true → AllByRecursion (IsOther s.id) segments) → LacksAlive new s
       absent s others all at =
           kept (Alive s.id at) (
-            no_meta s.id at,
+            alive-not-meta s.id at,
             all_both (λ name. Alive s.id at ≢ name) (six_files ids) (alive_files (all_listed stamp segments))
-                (no_six s.id at ids) (no_alive s.id at segments (others all)),
+                (none_of_six s.id at ids) (no_alive s.id at segments (others all)),
           )
           ∙ ap (λ (fs : NamedFiles). get fs (Alive s.id at)) (empty_of_len old none) ∙ get-empty name_cmp (Alive s.id at)

@@ -1,5 +1,5 @@
 -- A meta that is saved, and synced.
-use Rattle.std.proofs.Common.{◌≡◌, ◌∙◌, ℕ, List, [], ◌∷◌, ◌++◌, IsTrue, Some, Result, Ok, Err, ap, refl, subst, sym, arith}
+use Rattle.std.proofs.Common.{◌≡◌, ◌∙◌, ℕ, List, [], ◌∷◌, ◌++◌, IsTrue, Some, Result, Ok, Err, ap, subst}
 use Rattle.std.specs.Prelude.{OnOk}
 use Rattle.std.specs.FinMap.{get, insert, get-insert}
 use Rattle.std.specs.Option.{option_and_then}
@@ -12,7 +12,6 @@ use Rattle.seg_directory.specs.DirectoryStates.{DirectoryState}
 use Rattle.seg_directory.specs.DirectorySteps.{Step, Works}
 use Rattle.seg_meta.specs.ParsedMeta.{meta_read}
 use Rattle.seg_meta.specs.MetaText.{meta_text}
-use Rattle.seg_meta.specs.SavableMetas.{IsMetaList}
 use Rattle.seg_model.specs.Fields.{Schema}
 use Rattle.seg_meta.specs.IndexOfFiles as index
 use Rattle.seg_model.specs.Input.{Settings}
@@ -21,7 +20,6 @@ use Rattle.seg_segment.specs.SegmentFiles.{KeepsAllBut}
 use Rattle.seg_segment.specs.declared.segment_files.SegmentFiles.{SegmentFiles}
 use Rattle.seg_segment.proofs.Exports.{keeps_untouched}
 use Rattle.seg_index_build.specs.IndexWriteSteps.{begin_steps, fill_one_steps, publish_steps}
-use Rattle.seg_index_build.specs.IndexFiles.{merged_meta}
 use Rattle.seg_index_build.proofs.ToldDirectories.{tells-still}
 
 -- it is what the files read as
@@ -65,9 +63,3 @@ pub filled_of : {T : Type 0} (given meta : index.Meta) (id : ℕ) (files : Segme
     → given ≡ meta → Works (fill_one_steps given id files) r a b → Works (fill_one_steps meta id files) r a b
 filled_of given meta id files {r =
     r} {a = a} {b = b} is works = subst (λ m. Works (fill_one_steps m id files) r a b) is works
-
--- a meta of one segment can be saved
-pub one_listed : (settings : Settings) (schema : Schema) (ids : List ℕ) (id documents : ℕ) (given : index.Meta)
-    → given ≡ merged_meta settings schema ids id documents → IsMetaList given.segments
-one_listed settings schema ids id documents given is =
-    subst (λ (m : index.Meta). IsMetaList m.segments) (sym is) (omega arith, refl)

@@ -407,14 +407,6 @@ fits_of known analyzer input none =
     }
 
 module _ {T : Type 0} (x : T) (known : Known) (analyzer : Analyzer) (input : Input) (a b : Directories) where
-  -- where an output directory tells its files, it holds what was taken
-  pub holds_taken : BuildsIndexes known analyzer input (Ok x) a b → IsTrue a.output.tells
-      → HoldsTaken analyzer input (gained a.work.seen b.work.seen) b.output.files
-  holds_taken (stops e is h) told = absurd (cc is)
-  holds_taken (goes_on u n h writes) told =
-      output_holds analyzer input (fits_of known analyzer input h.0) a b
-      (wrote analyzer input x a b (subst (λ (d : Directories). WritesIndexes analyzer input (Ok x) d b) h.1 writes)) told
-
   -- the work directory keeps what it answered before
   pub builds_seen : BuildsIndexes known analyzer input (Ok x) a b → b.work.seen ≡ a.work.seen ++ gained a.work.seen b.work.seen
   builds_seen (stops e is h) = absurd (cc is)

@@ -21,7 +21,7 @@ use Rattle.seg_index_build.specs.MergeAnswers.{AllHaveHeld, LiveAreWhole}
 use Rattle.seg_index_build.specs.MergedSegments.{live_asked}
 use Rattle.seg_index_build.specs.TwoDirectories.{Directories}
 use Rattle.seg_index_build.proofs.WritingExits.{Begun, Filled}
-use Rattle.seg_index_build.proofs.FilledIndex.{filled_alive, filled_counts, filled_fit, filled_stand, filled_taken, filled_tells, filled_totals}
+use Rattle.seg_index_build.proofs.FilledIndex.{filled_alive, filled_fit, filled_stand, filled_taken, filled_tells, filled_totals}
 use Rattle.seg_index_build.proofs.FillSteps.{length-batches}
 use Rattle.seg_index_build.proofs.ToldDirectories.{tells-still}
 use Rattle.seg_index_build.proofs.SegmentIds.{work_distinct, work_many}
@@ -71,18 +71,6 @@ module _ (analyzer : Analyzer) (input : Input) where
             filled_taken input.settings input.schema analyzer (work_ids input.ids) input.cuts input.operations many tt
             filled.begun_at w filled.fills;
       }
-
-      -- no count of faults fell
-      pub filled_later : a.work.faults ≤ w.faults
-      filled_later =
-          omega (
-            arith,
-            begun_later a filled.begun_at o filled.begun,
-            filled_counts input.settings input.schema analyzer (work_ids input.ids) input.cuts input.operations tt filled.begun_at w filled.fills,
-          )
-
-      pub filled_output_later : a.output.faults ≤ o.faults
-      filled_output_later = (all_went filled.begun.lists_output).later
 
       pub output_told : IsTrue a.output.tells → IsTrue o.tells
       output_told told = tells-still _ _ (all_went filled.begun.lists_output).tells told

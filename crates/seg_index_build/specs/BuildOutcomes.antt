@@ -25,7 +25,7 @@ use Rattle.seg_index_build.specs.IndexFiles.{IsOutputIndexOf, IsWorkIndexOf, mer
 use Rattle.seg_index_build.specs.IndexTotals.{HasOutputTotals, HasWorkTotals}
 use Rattle.seg_index_build.specs.MergeAnswers.{IsMergedAs}
 use Rattle.seg_index_build.specs.MergedSegments.{IsReadBack}
-use Rattle.seg_index_build.specs.OtherFiles.{KeepsOthers, LacksAlive}
+use Rattle.seg_index_build.specs.OtherFiles.{KeepsOthers, LacksAlive, Stays}
 use Rattle.seg_index_build.specs.TakenBatches.{HoldsTaken, gained}
 use Rattle.seg_index_build.specs.TwoDirectories.{Directories}
 
@@ -110,7 +110,7 @@ pub record StopsBuilding (known : Known) (analyzer : Analyzer) (input : Input) (
   pub refused : IsTrue before.work.tells → IfRefusal (λ x. build_refusal known analyzer input ≡ Some x) e
   pub untold : IfRefusal (IsWhyUntold known analyzer input) e
   pub batch_refused : IfSome (batches_error input.schema analyzer 0 input.cuts input.operations)
-      (λ _. after.output.files ≡ before.output.files)
+      (λ _. Stays before.output after.output)
   pub fresh : AreEmpty before → e ≢ IndexAlreadyExists
   pub whole : IsTrue before.work.tells → IsNoDamage e
   pub errors : IsBuildError e before after

@@ -65,6 +65,7 @@ pub record IndexMergeComesTo (metas : List IndexMeta) (id : ℕ) (result : Resul
   pub output_whole : IsTrue before.output.tells
       → IfOk result (λ answer. IsWholeIndex after.output.files (meta_of answer))
   pub sources_stay : files_of after.sources ≡ files_of before.sources
+  pub others : KeepsAllBut (merged_files id) before.output.files after.output.files
   pub undamaged : AllTell before.sources → SourcesAreWhole (files_of before.sources) metas → IfErr result IsNoDamage
   pub fresh : IsTrue before.output.tells → len before.output.files ≡ 0 → result ≢ Err IndexAlreadyExists
   pub complete : indices.CanBeMerged metas id before after → IfErr result (λ e. e ≡ OutOfMemory)

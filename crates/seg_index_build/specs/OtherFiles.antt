@@ -1,9 +1,11 @@
--- Which files the building of an index doesn't make.
-use Rattle.std.specs.Prelude.{ℕ, ◌≡◌, ◌∷◌, ◌++◌, List, true, None}
+-- What the building of an index leaves as it was.
+use Rattle.std.specs.Prelude.{ℕ, ◌≡◌, ◌∷◌, ◌++◌, List, true, None, IsTrue}
 use Rattle.std.specs.FinMap.{get}
 use Rattle.std.specs.List.{list_all}
 use Rattle.seg_common.specs.declared.name.FileName.{FileName}
 use Rattle.seg_common.specs.declared.name.FileName.TheVariants.{Alive, Meta}
+use Rattle.seg_directory.specs.DirectoryStates.{DirectoryState}
+use Rattle.seg_directory.specs.DiskChanges.{KeepsDisk}
 use Rattle.seg_directory.specs.Files.{NamedFiles}
 use Rattle.seg_model.specs.Fields.{Analyzer}
 use Rattle.seg_model.specs.Input.{Input}
@@ -11,6 +13,11 @@ use Rattle.seg_segment.specs.SegmentFiles.{KeepsAllBut, segment_names}
 use Rattle.seg_batches.specs.WrittenSegments.{WrittenSegment, alive_files, six_files}
 use Rattle.seg_index_build.specs.IndexFiles.{output_id, work_ids, work_listed}
 use Rattle.seg_index_build.specs.TwoDirectories.{Directories}
+
+-- no file changes, nor, where the disk is told, what a crash may leave of it
+pub record Stays (before after : DirectoryState) : Type 0 where
+  pub files : after.files ≡ before.files
+  pub disk : IsTrue before.disk.told → KeepsDisk before.disk after.disk
 
 -- a segment of which nothing is deleted has no alive file
 abbrev pub LacksAlive : NamedFiles → WrittenSegment → Type 0

@@ -21,8 +21,7 @@ use seg_common::SegmentId;
 use seg_directory::Directory;
 use seg_merger::{IndexMerger, filters_fit};
 use seg_meta::{
-    Index, IndexMeta, IndexSettings, Segment, SegmentMeta, id_fits, metas_read_back,
-    schema_reads_back,
+    Index, IndexSettings, Segment, SegmentMeta, id_fits, metas_read_back, schema_reads_back,
 };
 use seg_segment::SegmentSerializer;
 use seg_tokens::Text;

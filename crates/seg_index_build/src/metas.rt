@@ -1,5 +1,5 @@
 //! The metas of both indexes.
-ghost use Rattle.std.specs.Prelude.{◌≡◌, ◌<◌, ◌^◌, ◌∷◌, [], None, Some, IfOk};
+ghost use Rattle.std.specs.Prelude.{◌≡◌, ◌<◌, ◌^◌, IfOk};
 ghost use Rattle.seg_meta.specs.SavableMetas.{IsMetaList};
 ghost use Rattle.seg_meta.specs.MetaMeaning.{meta_of, settings_of};
 ghost use Rattle.seg_index_build.specs.IndexFiles.{merged_meta, segments_meta};

@@ -1,4 +1,4 @@
-use Rattle.std.proofs.Common.{rules, ◌≡◌, sym, subst}
+use Rattle.std.proofs.Common.{rules, ◌≡◌, subst}
 use Rattle.seg_meta.specs.MetaBounds.{AreReadBack}
 use Rattle.seg_meta.specs.MetaMeaning.{settings_of}
 use Rattle.seg_model.specs.Fields.{Schema}
