@@ -41,10 +41,10 @@ CAUSES = [
     ('files as they are read', 'seg_directory::calls::read_file'),
     ('opening and checking', 'seg_open'),
     ('merging', 'seg_index_build::filtered_merge'),
-    ('the text', 'seg_tool::reading_back'),
-    ('the script: its bytes, and an operation as a JSON tree', 'seg_tool::build_job|segments::run_in_folders'),
+    ('the text', 'seg_tool::printed_index'),
+    ('the script: its bytes, and an operation as a JSON tree', 'seg_tool::command::build_job|segments::run_in_folders'),
 ]
-PURPOSES = {'files as they are read': [('merge_filtered', ', for the merge'), ('reading_back', ', for the text')]}
+PURPOSES = {'files as they are read': [('merge_filtered', ', for the merge'), ('printed_index', ', for the text')]}
 REST = 'all else'
 
 

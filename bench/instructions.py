@@ -30,7 +30,7 @@ CAUSES = [
     ('files read', 'seg_directory::calls::read_file'),
     ('opened and checked', '^seg_open'),
     ('merged', 'seg_index_build::filtered_merge'),
-    ('the text', 'seg_tool::reading_back|^seg_text'),
+    ('the text', 'seg_tool::printed_index|^seg_text'),
 ]
 REST = 'all else'
 # What is counted across all causes.

@@ -19,7 +19,7 @@ USE = re.compile(r'^(?:ghost |pub )?use ([\w.]+?)(?:\.\{(.*)\}| as (\w+))?;?$', 
 HEAD = re.compile(r'^ *(?:(?:abbrev|unfoldable)(?: pub)?|pub record|pub data) (?P<name>[^\s:]+)')
 MEMBER = re.compile(r'^  pub (?P<name>[^\s:]+) :')
 WORD = re.compile(r'[^\s(){},;]+')
-ENTRY = re.compile(r'^### `(\S+)` in `crates/(\w+)/specs/(\w+)\.antt`\n\n```antt\n(.*?)\n```$', re.M | re.S)
+ENTRY = re.compile(r'^### `(\S+)` in `crates/(\w+)/specs/([\w/]+)\.antt`\n\n```antt\n(.*?)\n```$', re.M | re.S)
 QUOTE = re.compile(r'^From `(\S+)`:\n\n```antt\n(.*?)\n```$', re.M | re.S)
 THEME = re.compile(r'^\| ([^|]+) \| ([^|]+) \| (\d+) \|$', re.M)
 CLAUSES = re.compile(r'^- ((?:`\w+`(?:, )?)+): ', re.M)
@@ -27,7 +27,8 @@ CLAUSES = re.compile(r'^- ((?:`\w+`(?:, )?)+): ', re.M)
 
 def file_of(module):
     """`seg_model/Fields`, of `Rattle.seg_model.specs.Fields`; none of a module that is no spec of this repository."""
-    return '/'.join(module.split('.')[1::2]) if re.fullmatch(r'Rattle\.seg_\w+\.specs\.\w+', module) else None
+    crate, *inside = re.sub(r'^Rattle\.(seg_\w+)\.specs\.', r'\1.', module).split('.')
+    return '/'.join([crate, *inside]) if crate.startswith('seg_') else None
 
 
 def scope(text):
@@ -63,8 +64,9 @@ class Spec:
 
 class Specs:
     def __init__(self):
-        paths = sorted(TOP.glob('crates/*/specs/*.antt'))
-        self.files = {f'{path.parts[-3]}/{path.stem}': Spec(path) for path in paths}
+        folders = sorted(TOP.glob('crates/*/specs'))
+        self.files = {f'{folder.parent.name}/{path.relative_to(folder).with_suffix("")}': Spec(path)
+                      for folder in folders for path in sorted(folder.rglob('*.antt'))}
 
     def definition(self, file, name):
         """Where the definition of that name is, though the file may only hand it on."""

@@ -16,12 +16,13 @@ use Rattle.seg_segment.specs.Laws.{HoldsOneContents}
 use Rattle.seg_segment.specs.ReadErrors.{IsNoDamage, IsReadError}
 use Rattle.seg_index_build.specs.BuildOutcomes.{AreEmpty, BuildComesTo, IsWhyUntold}
 use Rattle.seg_index_build.specs.IndexFiles.{IsMergedIndexOf, IsOutputIndexOf, IsWorkIndexOf}
+use Rattle.seg_index_build.specs.OtherFiles.{Stays}
 use Rattle.seg_index_build.specs.TwoDirectories.{Directories, goes_on, stops}
 use Rattle.seg_index_build.proofs.Exports.{IsBuildError, RoseIn, read_unrefused}
 use Rattle.seg_tool.specs.IndexTexts.{build_text}
 use Rattle.seg_tool.specs.InputIndexes.{BuildsText}
+use Rattle.seg_tool.specs.PrintedIndex.{PrintsIndex}
 use Rattle.seg_tool.specs.Printing.{opening}
-use Rattle.seg_tool.specs.ReadingBack.{PrintsIndex}
 use Rattle.seg_tool.specs.declared.words.Detail.{Detail}
 use Rattle.seg_tool.proofs.IndexLaws.{prints_rose, prints_so, prints_stay, prints_told, prints_undamaged}
 use Rattle.seg_tool.proofs.ReadText.{both_read, output_whole, work_whole}
@@ -176,12 +177,12 @@ module _ (known : Known) (analyzer : Analyzer) (input : Input) (detail : Detail)
       | inr so ↦ read_unrefused (IsWhyUntold known analyzer input) e so
     ]
 
-    -- where a batch is refused, the files of the output are as they were
+    -- where a batch is refused, the output is as it was
     pub not_merged : NotPrinted e a b
-        → IfRefusal (λ _. IfSome (batches_error input.schema analyzer 0 input.cuts input.operations) (λ _. b.output.files ≡ a.output.files)) e
+        → IfRefusal (λ _. IfSome (batches_error input.schema analyzer 0 input.cuts input.operations) (λ _. Stays a.output b.output)) e
     not_merged h = elim (ends_so h) [
-      | inl built ↦ refusal_any (IfSome (batches_error input.schema analyzer 0 input.cuts input.operations) (λ _. b.output.files ≡ a.output.files)) e built.ends.batch_refused
-      | inr so ↦ read_unrefused (λ _. IfSome (batches_error input.schema analyzer 0 input.cuts input.operations) (λ _. b.output.files ≡ a.output.files)) e so
+      | inl built ↦ refusal_any (IfSome (batches_error input.schema analyzer 0 input.cuts input.operations) (λ _. Stays a.output b.output)) e built.ends.batch_refused
+      | inr so ↦ read_unrefused (λ _. IfSome (batches_error input.schema analyzer 0 input.cuts input.operations) (λ _. Stays a.output b.output)) e so
     ]
 
     pub not_fresh : AreEmpty a → NotPrinted e a b → e ≢ IndexAlreadyExists

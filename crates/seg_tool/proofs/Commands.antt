@@ -1,29 +1,31 @@
 -- What is promised of a run, by the command that its words ask for.
-use Rattle.std.proofs.Common.{◌≡◌, ◌∙◌, ℕ, List, false, Option, None, Some, Result, refl, sym, ap, subst}
-use Rattle.std.specs.Prelude.{◌↔◌, String}
+pub mod OfBuild
+pub mod OfGenerate
+pub mod OfMerge
+pub mod OfShow
+use Rattle.std.proofs.Common.{◌≡◌, ◌∙◌, ℕ, List, false, Option, None, Some, refl, sym, ap, subst}
+use Rattle.std.specs.Prelude.{◌↔◌, ◌≢◌, String}
 use Rattle.std.specs.declared.alloc.Global.{Global}
-use Rattle.seg_values.specs.declared.error.TantivyError.{TantivyError}
 use Rattle.seg_model.specs.Fields.{Analyzer}
 use Rattle.seg_model.specs.Laws.{ValidInputsAreNotRefused}
 use Rattle.seg_model.specs.ValidInputs.{Known}
 use Rattle.seg_segment.specs.Laws.{HoldsOneContents}
 use Rattle.seg_generate.specs.GeneratedTexts.{GeneratedInputsAreValid}
 use Rattle.seg_index_build.specs.TwoDirectories.{Directories}
-use Rattle.seg_tool.specs.Generate.{GeneratesText, generate}
 use Rattle.seg_tool.specs.Job.{IsCaused, Job}
-use Rattle.seg_tool.specs.JobOf.{job_of, no_job}
-use Rattle.seg_tool.specs.Merge.{MergesText, merge}
 use Rattle.seg_tool.specs.Runs.{Runs, RunsCommand, RunsUnread, TouchesNothing, WithStatus, World}
-use Rattle.seg_tool.specs.Show.{ShowsText, show}
-use Rattle.seg_tool.specs.Words.{command_of}
+use Rattle.seg_tool.specs.Words.{command_of, job_of, no_job}
+use Rattle.seg_tool.specs.Words.GenerateJob.{generate}
+use Rattle.seg_tool.specs.Words.MergeJob.{merge}
+use Rattle.seg_tool.specs.Words.ShowJob.{show}
 use Rattle.seg_tool.specs.declared.status.Status.{Status}
 use Rattle.seg_tool.specs.declared.status.Status.TheVariants.{Words}
 use Rattle.seg_tool.specs.declared.words.Command.{Command}
 use Rattle.seg_tool.specs.declared.words.Command.TheVariants.{Build, Generate, Merge, Show}
-use Rattle.seg_tool.proofs.OfBuild.{build_no_words, of_build}
-use Rattle.seg_tool.proofs.OfGenerate.{generate_laws}
-use Rattle.seg_tool.proofs.OfMerge.{merge_laws}
-use Rattle.seg_tool.proofs.OfShow.{show_laws}
+use Rattle.seg_tool.proofs.Commands.OfBuild.{build_no_words, of_build}
+use Rattle.seg_tool.proofs.Commands.OfGenerate.{generate_laws}
+use Rattle.seg_tool.proofs.Commands.OfMerge.{merge_laws}
+use Rattle.seg_tool.proofs.Commands.OfShow.{show_laws}
 use Rattle.seg_tool.proofs.OutputOnDisk.{unused_leaves}
 use Rattle.seg_tool.proofs.Promised.{Laws, Promises, no_words, none_taken, of_job, same_count}
 use Rattle.seg_tool.proofs.WorkOnDisk.{kept_same}
@@ -32,12 +34,18 @@ module _ {S K : Type 0} (known : Known) (analyzer : Analyzer) (status : Status) 
   abbrev Keeps : Job → Type 0
   Keeps job = Promises job status source source_after sink sink_after a b
 
+  -- and the status isn't that of words that are no command
+  abbrev Serves : Job → Type 0
+  Serves job = Keeps job × (status ≢ Words)
+
   -- a job that reads no source
-  unread : (job : Job) (does : Result (List ℕ) TantivyError → Directories → Directories → Type 0) → job.reads ≡ false
-      → Laws job does a.directories b.directories → RunsUnread (WithStatus does) status source source_after sink sink_after a b → Keeps job
-  unread job does reads laws h =
-      of_job job does status source source_after sink sink_after a b laws
-      (none_taken job status source source_after a b reads h.same_source h.same) h.ends
+  unread : (job : Job) → job.reads ≡ false → Laws job job.Makes a.directories b.directories
+      → RunsUnread (WithStatus job.Makes) status source source_after sink sink_after a b → Serves job
+  unread job reads laws h = (
+    of_job job job.Makes status source source_after sink sink_after a b laws
+        (none_taken job status source source_after a b reads h.same_source h.same) h.ends,
+    no_words job.Makes status sink sink_after a b h.ends,
+  )
 
   -- words that are no command
   nothing : TouchesNothing status source source_after sink sink_after a b → Keeps no_job
@@ -61,30 +69,34 @@ module _ {S K : Type 0} (known : Known) (analyzer : Analyzer) (status : Status) 
       }
 
   module _ (one : HoldsOneContents) (valid : ValidInputsAreNotRefused) (generates : GeneratedInputsAreValid) where
+    -- a line for each command
+    served : (command : Command) → RunsCommand known analyzer (Some command) status source source_after sink sink_after a b
+        → Serves (job_of known analyzer a.source.left (Some command))
+    served (Build detail) h = (
+      of_build known analyzer detail status source source_after sink sink_after a b one valid h,
+      build_no_words known analyzer detail status sink sink_after a b h,
+    )
+    served (Generate seed) h =
+        unread (generate known analyzer seed) refl (generate_laws known analyzer seed a.directories b.directories one valid generates) h
+    served Merge h = unread merge refl (merge_laws a.directories b.directories one) h
+    served Show h = unread show refl (show_laws a.directories b.directories) h
+
     of_command : (o : Option Command) → RunsCommand known analyzer o status source source_after sink sink_after a b
         → Keeps (job_of known analyzer a.source.left o)
     of_command None h = nothing h
-    of_command (Some (Build detail)) h = of_build known analyzer detail status source source_after sink sink_after a b one valid h
-    of_command (Some (Generate seed)) h =
-        unread (generate known analyzer seed) (GeneratesText known analyzer seed) refl
-        (generate_laws known analyzer seed a.directories b.directories one valid generates) h
-    of_command (Some Merge) h = unread merge MergesText refl (merge_laws a.directories b.directories one) h
-    of_command (Some Show) h = unread show ShowsText refl (show_laws a.directories b.directories) h
+    of_command (Some command) h = (served command h).0
+
+    words_only : (o : Option Command) → RunsCommand known analyzer o status source source_after sink sink_after a b
+        → (status ≡ Words ↔ (o ≡ None))
+    words_only None h = (λ at. refl, λ none. h.is)
+    words_only (Some command) h = (λ at. absurd ((served command h).1 at), λ none. absurd (cc none))
 
 module _ {S K : Type 0} {known : Known} {analyzer : Analyzer} {words : List (String Global)} {status : Status} {source source_after : S} {sink sink_after : K} {a b : World}
     (r : Runs known analyzer words status source source_after sink sink_after a b) where
-  pub promised : HoldsOneContents → ValidInputsAreNotRefused → GeneratedInputsAreValid
-      → Promises (job_of known analyzer a.source.left (command_of words)) status source source_after sink sink_after a b
-  promised one valid generates =
-      of_command known analyzer status source source_after sink sink_after a b one valid generates (command_of words) r.runs
+  module _ (one : HoldsOneContents) (valid : ValidInputsAreNotRefused) (generates : GeneratedInputsAreValid) where
+    pub promised : Promises (job_of known analyzer a.source.left (command_of words)) status source source_after sink sink_after a b
+    promised =
+        of_command known analyzer status source source_after sink sink_after a b one valid generates (command_of words) r.runs
 
-  pub run_words : status ≡ Words ↔ (command_of words ≡ None)
-  run_words = by (command_of words) r.runs
-    where
-      by : (o : Option Command) → RunsCommand known analyzer o status source source_after sink sink_after a b → (status ≡ Words ↔ (o ≡ None))
-      by None h = (λ at. refl, λ none. h.is)
-      by (Some (Build detail)) h = (λ at. absurd (build_no_words known analyzer detail status sink sink_after a b h at), λ none. absurd (cc none))
-      by (Some (Generate seed)) h =
-          (λ at. absurd (no_words (GeneratesText known analyzer seed) status sink sink_after a b h.ends at), λ none. absurd (cc none))
-      by (Some Merge) h = (λ at. absurd (no_words MergesText status sink sink_after a b h.ends at), λ none. absurd (cc none))
-      by (Some Show) h = (λ at. absurd (no_words ShowsText status sink sink_after a b h.ends at), λ none. absurd (cc none))
+    pub run_words : status ≡ Words ↔ (command_of words ≡ None)
+    run_words = words_only known analyzer status source source_after sink sink_after a b one valid generates (command_of words) r.runs

@@ -28,8 +28,8 @@ use Rattle.seg_segment.proofs.Exports.{FindWhole, FindsDamage, OnlyReads, Unchan
 use Rattle.seg_open.specs.OpenSegment.{OpenSegment}
 use Rattle.seg_open.specs.OpeningSteps.{Asked, OpensSegments}
 use Rattle.seg_open.proofs.Exports.{EachRead, IsHeld, IsOf, Whole, segments_held, segments_of_schema, segments_rose, segments_so, segments_stay, segments_undamaged}
+use Rattle.seg_tool.specs.PrintedIndex.{AreReadOf, IsPrinted, IsReadOf, PrintsIndex, ReadsText, all_of, fails, loaded, not_loaded, reads}
 use Rattle.seg_tool.specs.Printing.{read_texts}
-use Rattle.seg_tool.specs.ReadingBack.{AreReadOf, IsPrinted, IsReadOf, PrintsIndex, ReadsText, all_of, fails, loaded, not_loaded, reads}
 use Rattle.seg_tool.specs.declared.words.Detail.{Detail}
 
 -- ---- two stretches in which no file changes

@@ -15,14 +15,15 @@ use Rattle.seg_index_build.specs.FilesAfterCrash.{AreMergeOf, MayBeBuilt, MayBeM
 use Rattle.seg_index_build.specs.IndexFiles.{IsOutputIndexOf}
 use Rattle.seg_index_build.specs.TwoDirectories.{Directories, goes_on, stops}
 use Rattle.seg_generate.specs.GeneratedInput.{generated}
-use Rattle.seg_tool.specs.Generate.{GeneratesText, not_generated, of_generated}
 use Rattle.seg_tool.specs.InputIndexes.{BuildsText}
 use Rattle.seg_tool.specs.Job.{HasNoIndex}
-use Rattle.seg_tool.specs.Merge.{IsMergeOfListed, MayBeMergeOf, Merges, MergesText, merge_of}
+use Rattle.seg_tool.specs.Words.GenerateJob.{GeneratesText, not_generated, of_generated}
+use Rattle.seg_tool.specs.Words.MergeJob.{IsMergeOfListed, MayBeMergeOf, MergesText, merge_of}
 use Rattle.seg_tool.specs.declared.words.Detail.{Detail}
 use Rattle.seg_tool.specs.declared.words.Detail.TheVariants.{Brief, Summary}
 use Rattle.seg_tool.proofs.BuildLaws.{printed}
 use Rattle.seg_tool.proofs.IndexLaws.{load_index, load_stays, tells_on}
+use Rattle.seg_tool.proofs.JobSteps.{Merges, merges_listed}
 use Rattle.seg_tool.proofs.OutputOnDisk.{leaves_still, leaves_weaker, still_empty, told_on}
 use Rattle.seg_tool.proofs.ReadingOnDisk.{prints_keep}
 
@@ -120,10 +121,11 @@ module _ (a : Directories) (told : IsTrue a.work.tells) (clean : IsEmptyDisk a.o
   -- what is printed of it changes nothing
   pub merges_leave : (r : Result (List ℕ) TantivyError) (b : Directories) → MergesText r a b → MergeLeft b.output
   merges_leave r b (stops e is (stops d at l)) = not_merged b l.1
-  merges_leave r b (stops e is (goes_on metas m l k)) = merged_left metas m l.0 l.1 (Err e) b k
+  merges_leave r b (stops e is (goes_on metas m l k)) =
+      merged_left metas m l.0 l.1 (Err e) b (merges_listed metas (Err e) m b k)
   merges_leave r b (goes_on merged n (stops d at l) p) = absurd (cc at)
   merges_leave r b (goes_on merged n (goes_on metas m l k) p) =
-      let first = merged_left metas m l.0 l.1 (Ok merged) n k in
+      let first = merged_left metas m l.0 l.1 (Ok merged) n (merges_listed metas (Ok merged) m n k) in
       let still = told_on (MayBeMergeOf a.work.files) a.output.disk n.output.disk clean.told first in
       leaves_still (MayBeMergeOf a.work.files) a.output.disk n.output.disk b.output.disk still first
       (prints_keep [] (codes "output") Brief r n.output b.output still p.0)
@@ -132,8 +134,8 @@ module _ (a : Directories) (told : IsTrue a.work.tells) (clean : IsEmptyDisk a.o
   merges_rest text b (stops e is w) = absurd (cc is)
   merges_rest text b (goes_on merged n (stops d at l) p) = absurd (cc at)
   merges_rest text b (goes_on merged n (goes_on metas m l k) p) =
-      let first = merged_left metas m l.0 l.1 (Ok merged) n k in
+      let first = merged_left metas m l.0 l.1 (Ok merged) n (merges_listed metas (Ok merged) m n k) in
       let still = told_on (MayBeMergeOf a.work.files) a.output.disk n.output.disk clean.told first in
       let keeps = prints_keep [] (codes "output") Brief (Ok text) n.output b.output still p.0 in
       subst (λ (d : FileDisk). HasOnly (IsMergeOfListed a.work.files) d) (sym (keeps.after still))
-      (merged_rest metas m l.0 l.1 merged n k)
+      (merged_rest metas m l.0 l.1 merged n (merges_listed metas (Ok merged) m n k))

@@ -7,11 +7,7 @@ mod JobSteps
 mod JobsOnDisk
 mod MergeLaws
 mod MergedText
-mod OfBuild
-mod OfGenerate
 mod OfInput
-mod OfMerge
-mod OfShow
 mod OutputOnDisk
 mod Parts
 mod Printed

@@ -31,13 +31,14 @@ use Rattle.seg_index_build.specs.MergedSegments.{AreMerged, AreOfOne, IsRefusal,
 use Rattle.seg_index_build.specs.TwoDirectories.{Directories, goes_on, stops}
 use Rattle.seg_index_build.proofs.Exports.{read_unrefused}
 use Rattle.seg_tool.specs.Job.{IsReady}
-use Rattle.seg_tool.specs.Merge.{HasMergeableIndex, HasWholeLiveSegments, Merges, MergesText, MergesWork, RefusesMerge, merge_of, merged_of}
-use Rattle.seg_tool.specs.ReadingBack.{PrintsIndex}
+use Rattle.seg_tool.specs.Words.MergeJob.{HasMergeableIndex, HasWholeLiveSegments, MergesText, MergesWork, RefusesMerge, merge_of, merged_of}
+use Rattle.seg_tool.specs.PrintedIndex.{PrintsIndex}
 use Rattle.seg_tool.specs.Statuses.{status_of}
 use Rattle.seg_tool.specs.declared.status.Status.TheVariants.{Memory}
 use Rattle.seg_tool.specs.declared.words.Detail.TheVariants.{Brief}
 use Rattle.seg_tool.proofs.BuildLaws.{read_exists}
 use Rattle.seg_tool.proofs.IndexLaws.{load_index, load_rose, load_so, load_stays, load_undamaged, prints_rose, prints_so, prints_undamaged, tells_on}
+use Rattle.seg_tool.proofs.JobSteps.{Merges, merges_listed}
 use Rattle.seg_tool.proofs.MergedText.{first_of}
 use Rattle.seg_tool.proofs.StatusLaws.{memory_left, memory_only}
 use Rattle.seg_tool.proofs.Steady.{BothSteady, merges_steady}
@@ -101,12 +102,13 @@ module _ (e : TantivyError) (a b : Directories) where
   in_work : (d : TantivyError) → MergesWork (Err d) a b → Exits d a b
   in_work d (stops c is l) =
       subst (λ (x : TantivyError). Exits x a b) (sym (same_error IndexMeta d c is)) (at_loading l.0)
-  in_work d (goes_on metas m l k) = at_merging metas m l.0 l.1 k
+  in_work d (goes_on metas m l k) = at_merging metas m l.0 l.1 (merges_listed metas (Err d) m b k)
 
   in_output : (merged : IndexMeta) (n : Directories) → MergesWork (Ok merged) a n
       → PrintsIndex [] (codes "output") Brief (Err e) n.output b.output → Exits e a b
   in_output merged n (stops c is l) prints = absurd (cc is)
-  in_output merged n (goes_on metas m l k) prints = at_printing metas merged m n l.0 l.1 k prints
+  in_output merged n (goes_on metas m l k) prints =
+      at_printing metas merged m n l.0 l.1 (merges_listed metas (Ok merged) m n k) prints
 
   exit_of : MergesText (Err e) a b → Exits e a b
   exit_of (stops d is w) = exit_as (List ℕ) d is (in_work d w)

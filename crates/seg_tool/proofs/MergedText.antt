@@ -1,6 +1,7 @@
 -- The text that `merge` prints, and what it leaves of the work directory.
 use Rattle.std.proofs.Common.{◌≡◌, ◌≢◌, ◌∙◌, ℕ, List, [], ◌∷◌, map, Option, None, Some, Result, Ok, Err, IsTrue, refl, sym, ap, subst, codes}
 use Rattle.std.specs.Prelude.{Bool, replicate, true}
+use Rattle.std.specs.FinMap.{get}
 use Rattle.std.proofs.lemmas.List.{append-nil}
 use Rattle.std.proofs.lemmas.Option.{same_Some}
 use Rattle.seg_values.specs.declared.error.TantivyError.{TantivyError}
@@ -17,18 +18,21 @@ use Rattle.seg_model.specs.Fields.{Schema}
 use Rattle.seg_segment.specs.IndexForms.{segment_forms}
 use Rattle.seg_segment.specs.FileContents.{Holds}
 use Rattle.seg_segment.specs.Laws.{HoldsOneContents}
+use Rattle.seg_segment.specs.SegmentFiles.{KeepsAllBut}
 use Rattle.seg_open.specs.OpenSegment.{OpenSegment, contents_of, kept_count}
 use Rattle.seg_index_build.specs.IndexFiles.{undeleted}
 use Rattle.seg_index_build.specs.MergeAnswers.{AllHaveHeld}
 use Rattle.seg_index_build.specs.MergedIndices.{listed_segments}
 use Rattle.seg_index_build.specs.MergedSegments.{IsRefusal, MergeInput, MergesLive, MergesSegments, first_schema, joined, live_asked, output_meta_of}
+use Rattle.seg_index_build.specs.OtherFiles.{merged_files}
 use Rattle.seg_index_build.specs.TwoDirectories.{Directories, Passes, Then, goes_on, stops}
 use Rattle.seg_text.specs.SegmentText.{segment_text}
-use Rattle.seg_tool.specs.Merge.{IsJoined, IsMergedText, Merges, MergesText, MergesWork, joined_text, last_id, merge_of}
+use Rattle.seg_tool.specs.Words.MergeJob.{IsJoined, IsMergedText, MergesText, MergesWork, joined_text, last_id, merge_of}
+use Rattle.seg_tool.specs.PrintedIndex.{AreReadOf, PrintsIndex}
 use Rattle.seg_tool.specs.Printing.{read_segment_text, read_texts}
-use Rattle.seg_tool.specs.ReadingBack.{AreReadOf, PrintsIndex}
 use Rattle.seg_tool.specs.declared.words.Detail.TheVariants.{Brief}
 use Rattle.seg_tool.proofs.IndexLaws.{load_index, load_stays, prints_stay, prints_told, tells_on}
+use Rattle.seg_tool.proofs.JobSteps.{Merges, merges_listed}
 use Rattle.seg_tool.proofs.Steady.{merges_steady}
 
 -- segments that nothing refuses: there is one
@@ -97,7 +101,7 @@ module _ (a b : Directories) where
     merged_at = n;
     loads = l.0;
     same_output = l.1;
-    merges = k;
+    merges = merges_listed metas (Ok merged) m n k;
     prints = p.0;
     same_work = p.1;
   }
@@ -143,8 +147,21 @@ module _ (a b : Directories) where
   -- no file of the work directory changes
   work_same : (r : Result IndexMeta TantivyError) → MergesWork r a b → b.work.files ≡ a.work.files
   work_same r (stops e is l) = (load_stays a.work b.work (Err e) l.0).files
-  work_same r (goes_on metas m l k) = k.work_stays ∙ (load_stays a.work m.work (Ok metas) l.0).files
+  work_same r (goes_on metas m l k) = (merges_listed metas r m b k).work_stays ∙ (load_stays a.work m.work (Ok metas) l.0).files
+
+  -- and no file of the output but those of a merge
+  others_same : (r : Result IndexMeta TantivyError) → MergesWork r a b → KeepsAllBut (merged_files last_id) a.output.files b.output.files
+  others_same r (stops e is l) other none = ap (λ (s : DirectoryState). get s.files other) l.1
+  others_same r (goes_on metas m l k) other none =
+      (merges_listed metas r m b k).others other none ∙ ap (λ (s : DirectoryState). get s.files other) l.1
 
 pub merges_stay : (a b : Directories) (r : Result (List ℕ) TantivyError) → MergesText r a b → b.work.files ≡ a.work.files
 merges_stay a b r (stops e is w) = work_same a b (Err e) w
 merges_stay a b r (goes_on merged n w p) = ap (λ (s : DirectoryState). s.files) p.1 ∙ work_same a n (Ok merged) w
+
+pub merges_others : (a b : Directories) (r : Result (List ℕ) TantivyError) → MergesText r a b
+    → KeepsAllBut (merged_files last_id) a.output.files b.output.files
+merges_others a b r (stops e is w) other none = others_same a b (Err e) w other none
+merges_others a b r (goes_on merged n w p) other none =
+    ap (λ (files : NamedFiles). get files other) (prints_stay [] (codes "output") Brief n.output b.output r p.0).files
+    ∙ others_same a n (Ok merged) w other none

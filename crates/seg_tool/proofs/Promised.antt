@@ -9,10 +9,10 @@ use Rattle.seg_common.specs.Streams.{TakesAtMost}
 use Rattle.seg_values.specs.declared.error.TantivyError.{TantivyError}
 use Rattle.seg_directory.specs.DirectoryStates.{IsEmptyDisk}
 use Rattle.seg_index_build.specs.TwoDirectories.{Directories}
-use Rattle.seg_tool.specs.Build.{max_script}
 use Rattle.seg_tool.specs.Job.{Gains, GainsPart, IfReadOut, IsCaused, Job}
 use Rattle.seg_tool.specs.Runs.{EndsJob, SinkState, SourceState, WithStatus, World, WritesText, failed, has_text, no_text, written}
 use Rattle.seg_tool.specs.Statuses.{status_of}
+use Rattle.seg_tool.specs.Words.BuildJob.{max_script}
 use Rattle.seg_tool.specs.declared.status.Status.{Status}
 use Rattle.seg_tool.specs.declared.status.Status.TheVariants.{Done, Memory, Stream, Words}
 use Rattle.seg_tool.proofs.StatusLaws.{IsErrorOf, IsOfError, answer_of, error_of, is_error, of_error}

@@ -25,8 +25,8 @@ use Rattle.seg_batches.specs.WrittenSegments.{AllStand, AllTellAlive, TellsAlive
 use Rattle.seg_index_build.specs.IndexFiles.{IsOutputIndexOf, IsWorkIndexOf, output_id, undeleted, work_ids}
 use Rattle.seg_index_build.proofs.Exports.{counts, IsCounted, alive_read, batches_counted}
 use Rattle.seg_tool.specs.IndexTexts.{build_text, documents_text, output_text, segment, work_text}
+use Rattle.seg_tool.specs.PrintedIndex.{AreReadOf, IsPrinted, IsReadOf}
 use Rattle.seg_tool.specs.Printing.{opening, printed_text, read_segment_text, read_texts}
-use Rattle.seg_tool.specs.ReadingBack.{AreReadOf, IsPrinted, IsReadOf}
 use Rattle.seg_tool.specs.declared.words.Detail.{Detail}
 
 -- ---- one segment

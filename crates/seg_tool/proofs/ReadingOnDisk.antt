@@ -11,7 +11,7 @@ use Rattle.seg_meta.specs.declared.index_meta.IndexMeta.{IndexMeta}
 use Rattle.seg_open.specs.OpenSegment.{OpenSegment}
 use Rattle.seg_open.specs.OpeningSteps.{Asked, Found, OpensSegments, all_steps, segment_steps}
 use Rattle.seg_open.proofs.Exports.{segment_only}
-use Rattle.seg_tool.specs.ReadingBack.{PrintsIndex, ReadsText, all_of, fails, loaded, not_loaded, reads}
+use Rattle.seg_tool.specs.PrintedIndex.{PrintsIndex, ReadsText, all_of, fails, loaded, not_loaded, reads}
 use Rattle.seg_tool.specs.declared.words.Detail.{Detail}
 
 -- ---- the steps only read

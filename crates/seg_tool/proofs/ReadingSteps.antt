@@ -15,8 +15,8 @@ use Rattle.seg_meta.specs.declared.index_meta.IndexMeta.{IndexMeta}
 use Rattle.seg_open.specs.OpenSegment.{OpenSegment}
 use Rattle.seg_open.specs.OpeningSteps.{Asked, Opens, OpensSegments, segment_steps}
 use Rattle.seg_open.proofs.Exports.{none_yet, opens_turn, starves_after, starves_all, stops_turn}
+use Rattle.seg_tool.specs.PrintedIndex.{PrintsIndex, ReadsText, all_of, all_of_one, fails, loaded, not_loaded, reads}
 use Rattle.seg_tool.specs.Printing.{read_segment_text, read_texts}
-use Rattle.seg_tool.specs.ReadingBack.{PrintsIndex, ReadsText, all_of, all_of_one, fails, loaded, not_loaded, reads}
 use Rattle.seg_tool.specs.declared.words.Detail.{Detail}
 
 -- ---- memory runs out

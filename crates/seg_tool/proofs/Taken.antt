@@ -21,8 +21,8 @@ use Rattle.seg_open.specs.OpeningSteps.{Asked, Found, alive_steps, all_steps, se
 use Rattle.seg_index_build.specs.TakenBatches.{HoldsTaken, gained}
 use Rattle.seg_index_build.specs.TwoDirectories.{Directories}
 use Rattle.seg_index_build.proofs.Exports.{builds_seen, gained_as, told_both}
+use Rattle.seg_tool.specs.PrintedIndex.{PrintsIndex, all_of, fails, loaded, not_loaded, reads}
 use Rattle.seg_tool.specs.Printing.{opening}
-use Rattle.seg_tool.specs.ReadingBack.{PrintsIndex, all_of, fails, loaded, not_loaded, reads}
 use Rattle.seg_tool.specs.Taken.{before_meta, reads_meta}
 use Rattle.seg_tool.specs.declared.words.Detail.{Detail}
 use Rattle.seg_tool.proofs.BuildLaws.{Printed, output_stays}

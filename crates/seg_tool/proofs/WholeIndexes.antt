@@ -24,8 +24,8 @@ use Rattle.seg_index_build.specs.MergeAnswers.{IsWholeIndex}
 use Rattle.seg_index_build.specs.MergedIndices.{listed_segments}
 use Rattle.seg_index_build.specs.MergedSegments.{MergeInput, MergesLive, MergesSegments, is_live, live_asked}
 use Rattle.seg_index_build.specs.TwoDirectories.{Directories, Passes, Then, goes_on, stops}
-use Rattle.seg_tool.specs.Merge.{HasWholeLiveSegments, MergesText, merge_of}
-use Rattle.seg_tool.specs.ReadingBack.{PrintsIndex, all_of, fails, loaded, not_loaded, reads}
+use Rattle.seg_tool.specs.PrintedIndex.{PrintsIndex, all_of, fails, loaded, not_loaded, reads}
+use Rattle.seg_tool.specs.Words.MergeJob.{HasWholeLiveSegments, MergesText, merge_of}
 use Rattle.seg_tool.specs.declared.words.Detail.{Detail}
 use Rattle.seg_tool.proofs.IndexLaws.{load_index, load_stays, tells_on}
 use Rattle.seg_tool.proofs.MergedText.{is_done}

@@ -7,7 +7,8 @@ use Rattle.seg_directory.specs.FileDisks.{FileDisk}
 use Rattle.seg_directory.specs.DirectoryStates.{DirectoryState}
 use Rattle.seg_index_build.specs.MergedSegments.{MergeInput, MergesLive, MergesSegments, live_asked}
 use Rattle.seg_index_build.specs.TwoDirectories.{Directories, Then, goes_on, stops}
-use Rattle.seg_tool.specs.Merge.{MergesText, merge_of}
+use Rattle.seg_tool.specs.Words.MergeJob.{MergesText, merge_of}
+use Rattle.seg_tool.proofs.JobSteps.{merges_listed}
 use Rattle.seg_tool.proofs.ReadingOnDisk.{load_keeps, opens_keep}
 
 -- no image changes, where the disk is told
@@ -48,5 +49,5 @@ module _ {T : Type 0} (m : MergeInput) where
 pub merges_keep : (r : Result (List ℕ) TantivyError) (a b : Directories) → MergesText r a b → Kept a.work b.work
 merges_keep =
     in_turn _ _
-    (in_turn _ _ (λ r a b l told. load_keeps r a.work b.work told l.0) (λ metas r a b k. segments_kept (merge_of metas) r a b k.does))
+    (in_turn _ _ (λ r a b l told. load_keeps r a.work b.work told l.0) (λ metas r a b k. segments_kept (merge_of metas) r a b (merges_listed metas r a b k).does))
     (λ merged r a b p. kept_same a.work b.work p.1)

@@ -11,12 +11,13 @@ use Rattle.seg_check.specs.AdmittedInputs.{IsValidIf}
 use Rattle.seg_index_build.specs.BuildOutcomes.{AreEmpty, BuildComesTo, IsWhyUntold}
 use Rattle.seg_index_build.specs.FilesAfterCrash.{MayBeBuilt}
 use Rattle.seg_index_build.specs.IndexFiles.{IsMergedIndexOf, IsOutputIndexOf, IsWorkIndexOf}
+use Rattle.seg_index_build.specs.OtherFiles.{Stays}
 use Rattle.seg_index_build.specs.TakenBatches.{HoldsTaken, gained}
 use Rattle.seg_index_build.specs.TwoDirectories.{Directories, InOutput, InWork, Then}
 use Rattle.seg_tool.specs.IndexTexts.{build_text}
 use Rattle.seg_tool.specs.Job.{CrashLeaves}
+use Rattle.seg_tool.specs.PrintedIndex.{PrintsIndex}
 use Rattle.seg_tool.specs.Printing.{opening}
-use Rattle.seg_tool.specs.ReadingBack.{PrintsIndex}
 use Rattle.seg_tool.specs.Statuses.{IfWritten}
 use Rattle.seg_tool.specs.Taken.{before_meta}
 use Rattle.seg_tool.specs.declared.status.Status.{Status}
@@ -65,13 +66,13 @@ LeavesIndex analyzer input = CrashLeaves (MayBeBuilt analyzer input) (IsOutputIn
 -- ---- how it ends
 
 -- why it is refused: the first cause in the input; of a work directory that doesn't tell also what was read back. Where
--- a batch is refused, the files of the output are as they were
+-- a batch is refused, the output is as it was
 pub record RefusesInput (known : Known) (analyzer : Analyzer) (input : Input) (before after : Directories)
     (e : TantivyError) : Type 0 where
   pub told : IsTrue before.work.tells → build_refusal known analyzer input ≡ Some e
   pub untold : IsWhyUntold known analyzer input e
   pub of_batch : IfSome (batches_error input.schema analyzer 0 input.cuts input.operations)
-      (λ _. after.output.files ≡ before.output.files)
+      (λ _. Stays before.output after.output)
 
 -- a cause of the input alone is told before a directory is called, unless memory runs out; directories that tell and
 -- have no file are not told to have one; and where both tell, none is damaged

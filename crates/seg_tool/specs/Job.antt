@@ -27,6 +27,8 @@ pub record Job : Type 1 where
   pub Refuses : Directories → Directories → TantivyError → Type 0
   -- with which status it ends, and what that leaves of both directories
   pub Ends : Status → Directories → Directories → Type 0
+  -- the steps that make its text, or stop with an error
+  pub Makes : Result (List ℕ) TantivyError → Directories → Directories → Type 0
   -- what it does with both directories in turn, by its status
   pub Does : Status → Directories → Directories → Type 0
   -- the text that it prints, and what both directories have, once it is done

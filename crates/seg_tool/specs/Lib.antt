@@ -1,14 +1,9 @@
-pub mod Build
-pub mod Generate
 pub mod IndexTexts
 pub mod InputIndexes
 pub mod Job
-pub mod JobOf
-pub mod Merge
+pub mod PrintedIndex
 pub mod Printing
-pub mod ReadingBack
 pub mod Runs
-pub mod Show
 pub mod Statuses
 pub mod Summaries
 pub mod Taken

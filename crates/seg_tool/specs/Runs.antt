@@ -11,17 +11,14 @@ use Rattle.seg_model.specs.Input.{Input}
 use Rattle.seg_model.specs.ValidInputs.{Known}
 use Rattle.seg_index_build.specs.TwoDirectories.{Directories}
 use Rattle.seg_script.specs.Script.{script}
-use Rattle.seg_tool.specs.Build.{max_script}
-use Rattle.seg_tool.specs.Generate.{GeneratesText}
 use Rattle.seg_tool.specs.InputIndexes.{BuildsText}
-use Rattle.seg_tool.specs.Merge.{MergesText}
-use Rattle.seg_tool.specs.Show.{ShowsText}
 use Rattle.seg_tool.specs.Statuses.{status_of}
-use Rattle.seg_tool.specs.Words.{command_of}
+use Rattle.seg_tool.specs.Words.{command_of, job_of}
+use Rattle.seg_tool.specs.Words.BuildJob.{max_script}
 use Rattle.seg_tool.specs.declared.status.Status.{Status}
 use Rattle.seg_tool.specs.declared.status.Status.TheVariants.{Done, Words, Script, Stream, Memory}
 use Rattle.seg_tool.specs.declared.words.Command.{Command}
-use Rattle.seg_tool.specs.declared.words.Command.TheVariants.{Build, Generate, Merge, Show}
+use Rattle.seg_tool.specs.declared.words.Command.TheVariants.{Build}
 use Rattle.seg_tool.specs.declared.words.Detail.{Detail}
 
 -- ---- with statuses
@@ -96,6 +93,14 @@ pub data WritesText (text : List ℕ) (status : Status) (before after : SinkStat
   failed : status ≡ Stream → AppendsPart before.written after.written text → Rose before.faults after.faults
       → before.faults ≤ after.faults → WritesText text status before after
 
+-- what was made is written, or the status is that of its error, and nothing goes to the sink
+pub data WritesMade {K : Type 0} (made : Result (List ℕ) TantivyError) (status : Status) (sink sink_after : K)
+    (before after : SinkState) : Type 0 where
+  made_none : (e : TantivyError) → made ≡ Err e → status ≡ status_of e → sink_after ≡ sink → after ≡ before
+      → WritesMade made status sink sink_after before after
+  made_text : (text : List ℕ) → made ≡ Ok text → WritesText text status before after
+      → WritesMade made status sink sink_after before after
+
 -- a text is made and written, or there is none, and nothing goes to the sink
 pub data EndsJob {K : Type 0} (does : Result (List ℕ) Status → Directories → Directories → Type 0) (status : Status)
     (sink sink_after : K) (before after : World) : Type 0 where
@@ -137,19 +142,16 @@ pub record RunsUnread {S K : Type 0} (does : Result (List ℕ) Status → Direct
   pub same : after.source ≡ before.source
   pub ends : EndsJob does status sink sink_after before after
 
--- by the command
+-- by the command: all but `build` read no source
 abbrev pub RunsCommand : {S K : Type 0} → Known → Analyzer → Option Command → Status → S → S → K → K → World → World
     → Type 0
 RunsCommand known analyzer None status source source_after sink sink_after before after =
     TouchesNothing status source source_after sink sink_after before after
 RunsCommand known analyzer (Some (Build detail)) status source source_after sink sink_after before after =
     RunsBuild known analyzer detail status sink sink_after before after
-RunsCommand known analyzer (Some (Generate seed)) status source source_after sink sink_after before after =
-    RunsUnread (WithStatus (GeneratesText known analyzer seed)) status source source_after sink sink_after before after
-RunsCommand known analyzer (Some Merge) status source source_after sink sink_after before after =
-    RunsUnread (WithStatus MergesText) status source source_after sink sink_after before after
-RunsCommand known analyzer (Some Show) status source source_after sink sink_after before after =
-    RunsUnread (WithStatus ShowsText) status source source_after sink sink_after before after
+RunsCommand known analyzer (Some command) status source source_after sink sink_after before after =
+    RunsUnread (WithStatus (job_of known analyzer before.source.left (Some command)).Makes)
+    status source source_after sink sink_after before after
 
 -- by the words
 pub record Runs {S K : Type 0} (known : Known) (analyzer : Analyzer) (words : List (String Global)) (status : Status)

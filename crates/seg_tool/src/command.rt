@@ -7,17 +7,22 @@ ghost use Rattle.seg_common.specs.Streams.{AppendsPart, TakesAtMost};
 ghost use Rattle.seg_directory.specs.DiskChanges.{KeepsDisk};
 ghost use Rattle.seg_directory.specs.DirectoryStates.{IsEmptyDisk};
 ghost use Rattle.seg_index_build.specs.TwoDirectories.{both};
-ghost use Rattle.seg_tool.specs.Build.{max_script};
 ghost use Rattle.seg_tool.specs.Job.{Gains, GainsPart, IfReadOut, IsCaused};
-ghost use Rattle.seg_tool.specs.JobOf.{job_of};
 ghost use Rattle.seg_tool.specs.Runs.{Runs, sink_state, source_state, world};
 ghost use Rattle.seg_tool.specs.Statuses.{status_line};
-ghost use Rattle.seg_tool.specs.Words.{command_of};
+ghost use Rattle.seg_tool.specs.Words.{command_of, job_of};
+ghost use Rattle.seg_tool.specs.Words.BuildJob.{max_script};
 
-use crate::build_job::run_build;
-use crate::generate_job::run_generate;
-use crate::merge_job::run_merge;
-use crate::show_job::run_show;
+mod build_job;
+mod generate_job;
+mod merge_job;
+mod show_job;
+
+use crate::command::build_job::run_build;
+use crate::command::generate_job::generate;
+use crate::command::merge_job::merge_and_print;
+use crate::command::show_job::show;
+use crate::job_text::write_made;
 use crate::status::Status;
 use crate::status_line::report;
 use crate::words::{Command, command_of};
@@ -181,9 +186,11 @@ fn execute<S: Source, K: Sink, Z: Analyzers, W: Directory, O: Directory>(
         Some(Command::Build(detail)) => {
             run_build(alloc, detail, source, sink, analyzers, work, output)
         }
-        Some(Command::Generate(seed)) => run_generate(alloc, seed, sink, analyzers, work, output),
-        Some(Command::Merge) => run_merge(alloc, sink, work, output),
-        Some(Command::Show) => run_show(alloc, sink, work),
+        Some(Command::Generate(seed)) => {
+            write_made(sink, generate(alloc, analyzers, seed, work, output))
+        }
+        Some(Command::Merge) => write_made(sink, merge_and_print(alloc, work, output)),
+        Some(Command::Show) => write_made(sink, show(alloc, work)),
         None => Status::Words,
     }
 }

@@ -32,15 +32,9 @@ mod summary_totals;
 
 // The text of an index, of what its directory answers, and how it is written.
 mod job_text;
-mod reading_back;
+mod printed_index;
 
-// The jobs, a word each.
-mod build_job;
-mod generate_job;
-mod merge_job;
-mod show_job;
-
-// The whole.
+// The whole, and in it the jobs, a word each.
 mod command;
 
 pub use command::run;

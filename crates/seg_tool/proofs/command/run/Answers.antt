@@ -2,7 +2,7 @@ use Rattle.seg_tool.proofs.Commands.{promised, run_words}
 use Rattle.seg_tool.proofs.command.run.Goals as goal
 
 pub returns-clause-words : goal.returns-clause-words
-returns-clause-words g c = run_words c.execute-status.ensures
+returns-clause-words g c = run_words c.execute-status.ensures c.files_hold_one_contents.ensures c.valid_inputs_are_not_refused.ensures c.generated_inputs_are_valid.ensures
 
 pub returns-clause-caused : goal.returns-clause-caused
 returns-clause-caused g c =
